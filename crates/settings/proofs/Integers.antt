@@ -1,0 +1,59 @@
+-- A signed local holds bits. What a test on them says of the integer. Assumes nothing.
+use mathlib.Core.Path.{_≡_, refl, sym, ap, _∙_}
+use mathlib.Core.Bool.{Bool, true, false}
+use Prim.Native.Nat.{ℕ, _<_, _^_}
+use native.Mathlib.Omega.{arith}
+use lib.Dec.{T, eqb}
+use lib.IntN.{ℤ, pos, negsuc, natAbs}
+use lib.Signed.{ltZ, nonNeg}
+use borrow.Author.Tests.{eq-eqb, ne-eqb, eqb-true, eqb-false, ltb-true}
+use mir.Syntax.{w32}
+use mir.Val.{Fits, SFits, ofZ, toZ}
+use mir.Facts.{toZ-ofZ, toZ-pos}
+use Rattle.settings.specs.Numbers.{isNat, toNat}
+
+-- the integer that the bits of z are: z
+pub same : (z : ℤ) → SFits w32 z → toZ w32 (ofZ w32 z) ≡ z
+same z fit = toZ-ofZ fit
+
+-- the bits of z are the number n: z is n
+pub is-pos : (z : ℤ) (n : ℕ) → SFits w32 z → ofZ w32 z ≡ n → n < 2 ^ 31 → z ≡ pos n
+is-pos z n fit e lt = sym (toZ-ofZ fit) ∙ ap (toZ w32) e ∙ toZ-pos w32 lt
+
+pub is-nat : (z : ℤ) (n : ℕ) → SFits w32 z → ofZ w32 z ≡ n → n < 2 ^ 31 → isNat z n ≡ true
+is-nat z n fit e lt = ap (λ (x : ℤ). isNat x n) (is-pos z n fit e lt) ∙ eq-eqb n n refl
+
+pub is-not : (z : ℤ) (n : ℕ) → (ofZ w32 z ≡ n → ⊥) → isNat z n ≡ false
+is-not (pos a) n h = ne-eqb a n h
+is-not (negsuc a) n h = refl
+
+is-go : (z : ℤ) (n : ℕ) (t : Bool) → SFits w32 z → n < 2 ^ 31 → eqb (ofZ w32 z) n ≡ t → t ≡ isNat z n
+is-go z n true fit lt e = sym (is-nat z n fit (eqb-true (ofZ w32 z) n e) lt)
+is-go z n false fit lt e = sym (is-not z n (eqb-false (ofZ w32 z) n e))
+
+-- a test on the bits is a test of the integer
+pub is-by-bits : (z : ℤ) (n : ℕ) → SFits w32 z → n < 2 ^ 31 → eqb (ofZ w32 z) n ≡ isNat z n
+is-by-bits z n fit lt = is-go z n (eqb (ofZ w32 z) n) fit lt refl
+
+-- ---- an integer as a number
+-- what `natural` gives of a field
+pub counts : (z : ℤ) (n : ℕ) → SFits w32 z → n ≡ toNat (toZ w32 (ofZ w32 z)) → n ≡ toNat z
+counts z n fit e = e ∙ ap toNat (same z fit)
+
+pub yes-no : true ≡ false → ⊥
+yes-no e = let z : _≡_ {A = ℕ} 0 1 = cc in omega arith
+
+never : (n : ℕ) → n < 0 → ⊥
+never n h = omega arith
+
+pub below : (z : ℤ) → ltZ z (pos 0) ≡ true → 0 ≡ toNat z
+below (pos n) e = absurd (never n (ltb-true n 0 e))
+below (negsuc n) e = refl
+
+pub casts : (z : ℤ) → SFits w32 z → ltZ z (pos 0) ≡ false → T (nonNeg z) × Fits w32 (natAbs z)
+casts (pos n) fit e = (tt, record { fits = omega (arith, fit .sfits) })
+casts (negsuc n) fit e = absurd (yes-no e)
+
+pub kept : (z : ℤ) → ltZ z (pos 0) ≡ false → natAbs z ≡ toNat z
+kept (pos n) e = refl
+kept (negsuc n) e = cc

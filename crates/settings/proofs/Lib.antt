@@ -1,0 +1,9 @@
+pub mod Tests
+pub mod Integers
+pub mod Refusals
+pub mod Levels
+pub mod Heights
+pub mod Fields
+pub mod Known
+pub mod Accepted
+pub mod Words

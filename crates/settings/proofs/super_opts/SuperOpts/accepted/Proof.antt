@@ -1,0 +1,37 @@
+-- `accepted` meets its contract. Assumes nothing.
+use lib.Dec.{lit<}
+use borrow.Author.Needs.{needs}
+use Rattle.settings.specs.Numbers.{toNat}
+use Rattle.settings.specs.Sizes.{levelsOf}
+use Rattle.settings.proofs.Fields.{FieldsFit, levels-fit}
+use Rattle.settings.specs.Check.{accepted}
+use Rattle.settings.proofs.Integers.{same, is-by-bits}
+use Rattle.settings.proofs.super_opts.SuperOpts.accepted.Statement.{statement}
+use Rattle.settings.proofs.super_opts.SuperOpts.accepted.Tie as tie
+
+-- `accepted` meets its contract. Assumes nothing.
+
+fields : (c : tie.After-struct-told) → FieldsFit (c .before .before .before .before .args .self)
+fields c = search needs
+
+tested-requires : tie.Need-tested-requires
+tested-requires c κs = search needs
+
+is-fine-requires : tie.Need-is-fine-requires
+is-fine-requires c κs = search needs
+
+levels-of-requires : tie.Need-levels-of-requires
+levels-of-requires c κs = search needs
+
+returns : tie.Need-returns
+unfolding accepted
+returns c =
+    let l = c .before .before in
+    let fine = l .before .before .before .before .before .before .before in
+    let r = fine .before .before .args .self in
+    let f = fields (l .before .before .before .before .before) in
+    rw (fine .is-fine .ensures, fine .before .tested .ensures, is-by-bits (r .gpu) 0 (f .gpu) (lit< tt), is-by-bits (r .«scale_up») 0 (f .up) (lit< tt), l .levels-of .ensures, same (r .width) (f .width), same (r .height) (f .height))
+    (rw (is-by-bits (r .levels) (levelsOf (toNat (r .width)) (toNat (r .height))) (f .levels) (levels-fit (r .width) (r .height) (f .width))))
+
+pub accepted-spec : {M : Type 1} → statement M
+accepted-spec = tie.close (tie.spec tested-requires is-fine-requires levels-of-requires returns)

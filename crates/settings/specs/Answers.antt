@@ -1,0 +1,101 @@
+-- Document 01's number and value: of each call, and of each answer that is an enum.
+use Prim.Native.Nat.{ℕ}
+use mathlib.Core.Bool.{false, cond}
+use lib.Dec.{eqb}
+use lib.IntN.{ℤ, pos}
+use Rattle.settings.specs.declared.refusal.Refusal.{Refusal}
+use Rattle.settings.specs.declared.refusal.Refusal.the-variants.{Pel, Gpu, Finest, Lean, Side, NoRecord, Shift, Pitch, SourcePitch, Source, Frame, Spill, Scratch, Levels, NoRow, NoCode, Halving, Upscale}
+use Rattle.settings.specs.declared.refusal.Tested.{Tested}
+use Rattle.settings.specs.declared.refusal.Tested.the-variants.{Fine, Refused as TestRefused}
+use Rattle.settings.specs.declared.super_opts.Settings.{Settings}
+use Rattle.settings.specs.declared.super_opts.SuperOpts.{SuperOpts}
+use Rattle.settings.specs.declared.super_opts.Checked.{Checked}
+use Rattle.settings.specs.declared.super_opts.Checked.the-variants.{Accepted, Refused as CheckRefused}
+use Rattle.settings.specs.declared.super_opts.Packed.{Packed}
+use Rattle.settings.specs.declared.super_opts.Packed.the-variants.{Word, Refused as PackRefused}
+use Rattle.settings.specs.declared.super_opts.Sized.{Sized}
+use Rattle.settings.specs.declared.super_opts.Sized.the-variants.{Size, Refused as SizeRefused}
+use Rattle.settings.specs.Check.{settled, settingsNo, recordNo, superHeight, superWidth}
+use Rattle.settings.specs.Word.{packNo, wordOf}
+
+-- "Numbers a call can give"
+abbrev pub number : Refusal → ℕ
+number Pel = 1
+number Gpu = 2
+number Finest = 3
+number Lean = 4
+number Side = 5
+number NoRecord = 6
+number Shift = 7
+number Pitch = 8
+number SourcePitch = 9
+number Source = 10
+number Frame = 11
+number Spill = 12
+number Scratch = 13
+number Levels = 14
+number NoRow = 19
+number NoCode = 20
+number Halving = 21
+number Upscale = 22
+
+-- a number, and the value that goes with it
+pub record Answer (A : Type 0) : Type 0 where
+  pub no : ℕ
+  pub value : A
+
+abbrev pub answer : {A : Type 0} → ℕ → A → Answer A
+answer n a = record { no = n; value = a }
+
+-- a, or `none` where the number is a refusal's
+abbrev pub complete : {A : Type 0} → ℕ → A → A → Answer A
+complete n a none = answer n (cond (eqb n 0) a none)
+
+-- ---- the calls
+-- "a record of zeros"
+abbrev pub noRecord : SuperOpts
+noRecord =
+    record {
+      pel = pos 0;
+      gpu = pos 0;
+      «scale_down» = pos 0;
+      «scale_up» = pos 0;
+      full = false;
+      rc = false;
+      lean = false;
+      levels = pos 0;
+      width = pos 0;
+      height = pos 0;
+    }
+
+-- "A settings refusal gives a record of zeros"
+abbrev pub checkAnswer : Settings → ℤ → ℤ → Answer SuperOpts
+checkAnswer s w h = complete (settingsNo (settled s w h)) (settled s w h) noRecord
+
+-- "a packing refusal word 0"
+abbrev pub packAnswer : SuperOpts → Answer ℕ
+packAnswer r = complete (packNo r) (wordOf r) 0
+
+-- "a refused size .. zeros"
+abbrev pub heightAnswer : SuperOpts → Answer ℤ
+heightAnswer r = complete (recordNo r) (pos (superHeight r)) (pos 0)
+
+abbrev pub widthAnswer : SuperOpts → Answer ℤ
+widthAnswer r = complete (recordNo r) (pos (superWidth r)) (pos 0)
+
+-- ---- the enums
+abbrev pub tested : Tested → ℕ
+tested Fine = 0
+tested (TestRefused f) = number f
+
+abbrev pub checked : Checked → Answer SuperOpts
+checked (Accepted r) = answer 0 r
+checked (CheckRefused f) = answer (number f) noRecord
+
+abbrev pub packed : Packed → Answer ℕ
+packed (Word w) = answer 0 w
+packed (PackRefused f) = answer (number f) 0
+
+abbrev pub sized : Sized → Answer ℤ
+sized (Size n) = answer 0 n
+sized (SizeRefused f) = answer (number f) (pos 0)
