@@ -1,12 +1,12 @@
 -- A signed local holds bits. What a test on them says of the integer. Assumes nothing.
 use mathlib.Core.Path.{_≡_, refl, sym, ap, _∙_}
 use mathlib.Core.Bool.{Bool, true, false}
-use Prim.Native.Nat.{ℕ, _<_, _^_}
+use Prim.Native.Nat.{ℕ, zero, suc, _<_, _^_}
 use native.Mathlib.Omega.{arith}
 use lib.Dec.{T, eqb}
-use lib.IntN.{ℤ, pos, negsuc, natAbs}
-use lib.Signed.{ltZ, nonNeg}
-use borrow.Author.Tests.{eq-eqb, ne-eqb, eqb-true, eqb-false, ltb-true}
+use lib.IntN.{ℤ, pos, negsuc, natAbs, _-ℤ_}
+use lib.Signed.{ltZ, nonNeg, mag}
+use borrow.Author.Tests.{eq-eqb, ne-eqb, eqb-true, eqb-false, ltb-true, le-ltb}
 use mir.Syntax.{w32}
 use mir.Val.{Fits, SFits, ofZ, toZ}
 use mir.Facts.{toZ-ofZ, toZ-pos}
@@ -43,7 +43,7 @@ counts z n fit e = e ∙ ap toNat (same z fit)
 pub yes-no : true ≡ false → ⊥
 yes-no e = let z : _≡_ {A = ℕ} 0 1 = cc in omega arith
 
-never : (n : ℕ) → n < 0 → ⊥
+pub never : (n : ℕ) → n < 0 → ⊥
 never n h = omega arith
 
 pub below : (z : ℤ) → ltZ z (pos 0) ≡ true → 0 ≡ toNat z
@@ -57,3 +57,15 @@ casts (negsuc n) fit e = absurd (yes-no e)
 pub kept : (z : ℤ) → ltZ z (pos 0) ≡ false → natAbs z ≡ toNat z
 kept (pos n) e = refl
 kept (negsuc n) e = cc
+
+-- ---- minus one less an integer: its bits turned over
+pub turned-pos : (n : ℕ) → negsuc 0 -ℤ pos n ≡ negsuc n
+turned-pos zero = refl
+turned-pos (suc n) = ap negsuc (omega arith)
+
+pub turned-neg : (z : ℤ) → ltZ z (pos 0) ≡ true → negsuc 0 -ℤ z ≡ pos (mag z)
+turned-neg (pos n) e = absurd (never n (ltb-true n 0 e))
+turned-neg (negsuc n) e = rw (le-ltb (suc n) 1 (omega arith)) (ap pos (omega arith))
+
+pub mag-fits : (z : ℤ) → SFits w32 z → SFits w32 (pos (mag z))
+mag-fits z fit = record { sfits = fit .sfits }

@@ -1,53 +1,61 @@
--- An answer is known by its number and value. Assumes nothing.
-use mathlib.Core.Path.{_≡_, refl}
-use mathlib.Core.Bool.{false}
-use Prim.Native.Nat.{ℕ}
+-- Answers and their numbers: a refusal's number is not 0; what a call gives by its number; and an answer is known by its number and value. Assumes nothing.
+use mathlib.Core.Path.{_≡_, refl, sym, ap, _∙_}
+use mathlib.Core.Bool.{false, cond}
+use Prim.Native.Nat.{ℕ, zero, suc}
+use native.Mathlib.Omega.{arith}
+use borrow.Author.Tests.{ne-eqb}
 use lib.Dec.{eqb}
+use lib.IntN.{pos}
 use Rattle.settings.specs.declared.refusal.Refusal.{Refusal}
 use Rattle.settings.specs.declared.refusal.Refusal.the-variants.{Pel, Gpu, Finest, Lean, Side, NoRecord, Shift, Pitch, SourcePitch, Source, Frame, Spill, Scratch, Levels, NoRow, NoCode, Halving, Upscale}
+use Rattle.settings.specs.declared.refusal.Tested.{Tested}
+use Rattle.settings.specs.declared.refusal.Tested.the-variants.{Fine, Refused as TestRefused}
+use Rattle.settings.specs.declared.super_opts.Checked.{Checked}
+use Rattle.settings.specs.declared.super_opts.Checked.the-variants.{Accepted, Refused as CheckRefused}
+use Rattle.settings.specs.declared.super_opts.Packed.{Packed}
+use Rattle.settings.specs.declared.super_opts.Packed.the-variants.{Word, Refused as PackRefused}
+use Rattle.settings.specs.declared.super_opts.Sized.{Sized}
+use Rattle.settings.specs.declared.super_opts.Sized.the-variants.{Size, Refused as SizeRefused}
 use Rattle.settings.specs.Numbers.{_then_}
-use Rattle.settings.specs.Answers.{answer, complete, number}
+use Rattle.settings.specs.Answers.{Answer, answer, complete, number, tested, checked, packed, sized, noRecord}
 
--- ---- a refusal's number is not 0, and tells which refusal it is
+-- ---- a refusal's number tells which refusal it is, and is not 0
+-- the refusal of a number
+abbrev refusalOf : ℕ → Refusal
+refusalOf n = cond (eqb n 1) Pel (cond (eqb n 2) Gpu (cond (eqb n 3) Finest (cond (eqb n 4) Lean (cond (eqb n 5) Side (cond (eqb n 6) NoRecord (cond (eqb n 7) Shift (cond (eqb n 8) Pitch (cond (eqb n 9) SourcePitch (cond (eqb n 10) Source (cond (eqb n 11) Frame (cond (eqb n 12) Spill (cond (eqb n 13) Scratch (cond (eqb n 14) Levels (cond (eqb n 19) NoRow (cond (eqb n 20) NoCode (cond (eqb n 21) Halving (Upscale)))))))))))))))))
+
+number-back : (f : Refusal) → refusalOf (number f) ≡ f
+number-back Pel = refl
+number-back Gpu = refl
+number-back Finest = refl
+number-back Lean = refl
+number-back Side = refl
+number-back NoRecord = refl
+number-back Shift = refl
+number-back Pitch = refl
+number-back SourcePitch = refl
+number-back Source = refl
+number-back Frame = refl
+number-back Spill = refl
+number-back Scratch = refl
+number-back Levels = refl
+number-back NoRow = refl
+number-back NoCode = refl
+number-back Halving = refl
+number-back Upscale = refl
+
+number-not-0 : (f : Refusal) → number f ≡ 0 → ⊥
+number-not-0 f e = let last : f ≡ Upscale = sym (number-back f) ∙ ap refusalOf e in omega (arith, ap number last)
+
 pub number-some : (f : Refusal) → eqb (number f) 0 ≡ false
-number-some Pel = refl
-number-some Gpu = refl
-number-some Finest = refl
-number-some Lean = refl
-number-some Side = refl
-number-some NoRecord = refl
-number-some Shift = refl
-number-some Pitch = refl
-number-some SourcePitch = refl
-number-some Source = refl
-number-some Frame = refl
-number-some Spill = refl
-number-some Scratch = refl
-number-some Levels = refl
-number-some NoRow = refl
-number-some NoCode = refl
-number-some Halving = refl
-number-some Upscale = refl
+number-some f = ne-eqb (number f) 0 (number-not-0 f)
+
+then-some : (m n : ℕ) → (m ≡ 0 → ⊥) → m ≡ (m then n)
+then-some zero n h = absurd (h refl)
+then-some (suc m) n h = refl
 
 pub number-then : (f : Refusal) (n : ℕ) → number f ≡ (number f then n)
-number-then Pel n = refl
-number-then Gpu n = refl
-number-then Finest n = refl
-number-then Lean n = refl
-number-then Side n = refl
-number-then NoRecord n = refl
-number-then Shift n = refl
-number-then Pitch n = refl
-number-then SourcePitch n = refl
-number-then Source n = refl
-number-then Frame n = refl
-number-then Spill n = refl
-number-then Scratch n = refl
-number-then Levels n = refl
-number-then NoRow n = refl
-number-then NoCode n = refl
-number-then Halving n = refl
-number-then Upscale n = refl
+number-then f n = then-some (number f) n (number-not-0 f)
 
 -- ---- an answer that is complete, by its number
 pub given : {A : Type 0} (n : ℕ) (a none : A) → n ≡ 0 → answer 0 a ≡ complete n a none
@@ -55,3 +63,50 @@ given n a none e = rw e
 
 pub refused : {A : Type 0} (n : ℕ) (f : Refusal) (a none : A) → number f ≡ n → answer (number f) none ≡ complete n a none
 refused n f a none e = rw (← e, number-some f)
+
+-- ---- an answer is known by its number and value
+-- f is known by its value, where g takes it back
+known-by : {A B : Type 0} (f : A → B) (g : B → A) → ((a : A) → g (f a) ≡ a) → (a b : A) → f a ≡ f b → a ≡ b
+known-by f g back a b e = sym (back a) ∙ ap g e ∙ back b
+
+abbrev tested-from : ℕ → Tested
+tested-from n = cond (eqb n 0) Fine (TestRefused (refusalOf n))
+
+tested-back : (a : Tested) → tested-from (tested a) ≡ a
+tested-back Fine = refl
+tested-back (TestRefused f) = rw (number-some f, number-back f)
+
+pub tested-known : (a b : Tested) → tested a ≡ tested b → a ≡ b
+tested-known = known-by tested tested-from tested-back
+
+-- an answer of two cases: the value given, or the refusal
+module _ {A E : Type 0} (value : A → E) (refusal : Refusal → E) where
+  abbrev from : Answer A → E
+  from a = cond (eqb (a .no) 0) (value (a .value)) (refusal (refusalOf (a .no)))
+
+  value-back : (a : A) → from (answer 0 a) ≡ value a
+  value-back a = refl
+
+  refusal-back : (f : Refusal) (none : A) → from (answer (number f) none) ≡ refusal f
+  refusal-back f none = rw (number-some f, number-back f)
+
+checked-back : (a : Checked) → from Accepted CheckRefused (checked a) ≡ a
+checked-back (Accepted x) = value-back Accepted CheckRefused x
+checked-back (CheckRefused f) = refusal-back Accepted CheckRefused f noRecord
+
+pub checked-known : (a b : Checked) → checked a ≡ checked b → a ≡ b
+checked-known = known-by checked (from Accepted CheckRefused) checked-back
+
+packed-back : (a : Packed) → from Word PackRefused (packed a) ≡ a
+packed-back (Word x) = value-back Word PackRefused x
+packed-back (PackRefused f) = refusal-back Word PackRefused f 0
+
+pub packed-known : (a b : Packed) → packed a ≡ packed b → a ≡ b
+packed-known = known-by packed (from Word PackRefused) packed-back
+
+sized-back : (a : Sized) → from Size SizeRefused (sized a) ≡ a
+sized-back (Size x) = value-back Size SizeRefused x
+sized-back (SizeRefused f) = refusal-back Size SizeRefused f (pos 0)
+
+pub sized-known : (a b : Sized) → sized a ≡ sized b → a ≡ b
+sized-known = known-by sized (from Size SizeRefused) sized-back

@@ -7,3 +7,5 @@ pub mod Fields
 pub mod Known
 pub mod Accepted
 pub mod Words
+pub mod ByHand
+pub mod Unique

@@ -1,6 +1,6 @@
 -- Integers that are settings, bits, sums, and the order of refusals.
-use Prim.Native.Nat.{ℕ, zero, suc, _+_, _^_}
-use mathlib.Core.Bool.{Bool, true, false}
+use Prim.Native.Nat.{ℕ, zero, suc, _+_, _-_, _^_}
+use mathlib.Core.Bool.{Bool, true, false, cond}
 use lib.Dec.{eqb, ltb}
 use lib.IntN.{ℤ, pos, negsuc}
 
@@ -18,6 +18,14 @@ toNat (negsuc a) = 0
 abbrev pub isI32 : ℤ → Bool
 isI32 (pos n) = ltb n (2 ^ 31)
 isI32 (negsuc n) = ltb n (2 ^ 31)
+
+-- two's complement at 32 bits: the bits of an integer, and the integer of bits
+abbrev pub bitsOf : ℤ → ℕ
+bitsOf (pos n) = n
+bitsOf (negsuc n) = 2 ^ 32 - 1 - n
+
+abbrev pub ofBits : ℕ → ℤ
+ofBits n = cond (ltb n (2 ^ 31)) (pos n) (negsuc (2 ^ 32 - 1 - n))
 
 abbrev pub bit : Bool → ℕ
 bit true = 1

@@ -168,12 +168,18 @@ impl SuperOpts {
     fn tested(self) -> Tested
         ensures { λ r. ⌜ tested r ≡ settingsNo self ⌝ }
     {
+        let pel = is_pel(self.pel);
+        let gpu = is_gpu(self.gpu);
+        let finest = self.no_finest();
+        let lean = self.bad_lean();
+        let width = is_side(self.width);
+        let height = is_side(self.height);
         Tested::Fine
-            .then_refuse(!is_pel(self.pel), Refusal::Pel)
-            .then_refuse(!is_gpu(self.gpu), Refusal::Gpu)
-            .then_refuse(self.no_finest(), Refusal::Finest)
-            .then_refuse(self.bad_lean(), Refusal::Lean)
-            .then_refuse(!is_side(self.width) | !is_side(self.height), Refusal::Side)
+            .then_refuse(!pel, Refusal::Pel)
+            .then_refuse(!gpu, Refusal::Gpu)
+            .then_refuse(finest, Refusal::Finest)
+            .then_refuse(lean, Refusal::Lean)
+            .then_refuse(!width | !height, Refusal::Side)
     }
 
     fn no_finest(self) -> bool

@@ -13,8 +13,6 @@ use Rattle.settings.proofs.Levels.{reduced-next, levels-narrow, levels-
 use Rattle.settings.proofs.super_opts.auto_levels.Statement.{statement}
 use Rattle.settings.proofs.super_opts.auto_levels.Tie as tie
 
--- `auto_levels` meets its contract. The levels so far and those of the reduced size are all there are. Assumes nothing.
-
 stops : {h w H W i n : ℕ} → h ≡ H → w ≡ W → (ltb h 4 || ltb w 4) ≡ true → i + levelsOf W H ≡ n → i ≡ n
 stops {h} {w} {H} {W} p q t e = ⊎-elim (λ a. omega (arith, levels-low W W H (omega (arith, ltb-true h 4 a)))) (λ a. omega (arith, levels-narrow W W H (omega (arith, ltb-true w 4 a)))) (or-cases (ltb h 4) (ltb w 4) t)
 

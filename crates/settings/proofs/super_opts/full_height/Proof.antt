@@ -9,8 +9,6 @@ use Rattle.settings.proofs.Heights.{heights, heights-next, square-le, h
 use Rattle.settings.proofs.super_opts.full_height.Statement.{statement}
 use Rattle.settings.proofs.super_opts.full_height.Tie as tie
 
--- `full_height` meets its contract. The sum so far is that of the levels passed. Assumes nothing.
-
 abbrev Inv-loop : tie.InvT-loop
 Inv-loop base-h pel levels total₀ lv₀ total lv = (total ≡ pel * pel * base-h + heights base-h (lv - 1)) × (1 ≤ lv) × (lv - 1 ≤ levels - 1)
 

@@ -13,8 +13,6 @@ use Rattle.settings.proofs.Fields.{levels-fit}
 use Rattle.settings.proofs.super_opts.levels_of.Statement.{statement}
 use Rattle.settings.proofs.super_opts.levels_of.Tie as tie
 
--- `levels_of` meets its contract. Assumes nothing.
-
 counted : (c : tie.After-auto-levels) → c .auto-levels .result ≡ levelsOf (toNat (c .before .before .before .args .width)) (toNat (c .before .before .before .args .height))
 counted c =
     let a = c .before .before .before in

@@ -1,3 +1,4 @@
+-- `Refusal::number` meets its contract. Assumes nothing.
 use mathlib.Core.Path.{sym, ap}
 use Rattle.settings.specs.Answers.{number}
 use borrow.Author.Needs.{needs}

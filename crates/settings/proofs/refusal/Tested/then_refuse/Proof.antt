@@ -6,8 +6,6 @@ use Rattle.settings.proofs.Known.{number-then}
 use Rattle.settings.proofs.refusal.Tested.then_refuse.Statement.{statement}
 use Rattle.settings.proofs.refusal.Tested.then_refuse.Tie as tie
 
--- `Tested::then_refuse` meets its contract. Assumes nothing.
-
 enum-told : tie.Need-enum-told
 enum-told c = search needs
 

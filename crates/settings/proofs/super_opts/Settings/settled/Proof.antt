@@ -5,10 +5,6 @@ use Rattle.settings.proofs.Integers.{same}
 use Rattle.settings.proofs.super_opts.Settings.settled.Statement.{statement}
 use Rattle.settings.proofs.super_opts.Settings.settled.Tie as tie
 
--- `settled` meets its contract. Assumes nothing.
-
--- `settled` meets its contract. Assumes nothing.
-
 or-requires : tie.Need-or-requires
 or-requires c κs = search needs
 

@@ -9,8 +9,6 @@ use Rattle.settings.proofs.Integers.{same, is-by-bits}
 use Rattle.settings.proofs.super_opts.SuperOpts.accepted.Statement.{statement}
 use Rattle.settings.proofs.super_opts.SuperOpts.accepted.Tie as tie
 
--- `accepted` meets its contract. Assumes nothing.
-
 fields : (c : tie.After-struct-told) → FieldsFit (c .before .before .before .before .args .self)
 fields c = search needs
 

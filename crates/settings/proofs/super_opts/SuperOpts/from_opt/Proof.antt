@@ -9,10 +9,6 @@ use Rattle.settings.proofs.Known.{given, refused}
 use Rattle.settings.proofs.super_opts.SuperOpts.from_opt.Statement.{statement}
 use Rattle.settings.proofs.super_opts.SuperOpts.from_opt.Tie as tie
 
--- `from_opt` meets its contract. Assumes nothing.
-
--- `from_opt` meets its contract. Assumes nothing.
-
 settles : (c : tie.After-settled) → c .settled .result ≡ settled (c .before .args .opt) (c .before .args .width) (c .before .args .height)
 settles c = c .settled .ensures ∙ rw (same (c .before .args .width) (c .before .fits .width), same (c .before .args .height) (c .before .fits .height))
 

@@ -17,8 +17,6 @@ use Rattle.settings.proofs.Known.{refused}
 use Rattle.settings.proofs.super_opts.SuperOpts.super_width.Statement.{statement}
 use Rattle.settings.proofs.super_opts.SuperOpts.super_width.Tie as tie
 
--- `super_width` meets its contract. Assumes nothing.
-
 passed : (c : tie.After-reduce-dim) → accepted (c .before .before .before .before .before .before .args .self) ≡ true
 passed c =
     let a = c .before .before .before .before .before in

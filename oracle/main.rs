@@ -1,0 +1,37 @@
+//! The Rust of open-svpflow, unchanged, answering cases as the Rattle programs do.
+//! `scripts/oracle` lays its files beside this one and builds it. Usage:
+//!     oracle settings-cases SEED COUNT    cases for `replay_settings`, a line each
+//!     oracle settings                     the Rust's answers to such cases, from standard input
+#![allow(dead_code)]
+
+mod params;
+mod super_opts;
+
+mod analyse {
+    // What `SuperOpts::from_params` names; its own file isn't part of what is ported.
+    pub(crate) struct SuperParams {
+        pub(crate) pel: i32,
+        pub(crate) gpu: i32,
+        pub(crate) levels: i32,
+        pub(crate) width: i32,
+        pub(crate) height: i32,
+    }
+}
+
+mod random;
+mod settings;
+
+fn main() {
+    let words: Vec<String> = std::env::args().skip(1).collect();
+    let number = |k: usize| -> u64 { words.get(k).and_then(|w| w.parse().ok()).unwrap_or_else(|| usage()) };
+    match words.first().map(String::as_str) {
+        Some("settings-cases") => settings::cases(number(1), number(2)),
+        Some("settings") => settings::answers(),
+        _ => usage(),
+    }
+}
+
+fn usage() -> ! {
+    eprintln!("usage: oracle settings-cases SEED COUNT | oracle settings");
+    std::process::exit(2)
+}
