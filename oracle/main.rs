@@ -2,6 +2,10 @@
 //! `scripts/oracle` lays its files beside this one and builds it. Usage:
 //!     oracle settings-cases SEED COUNT    cases for `replay_settings`, a line each
 //!     oracle settings                     the Rust's answers to such cases, from standard input
+//!     oracle words-cases SEED COUNT       words of accepted records, and damaged ones
+//!     oracle words-all                    every word of sides 1 to 24, and its neighbour
+//!     oracle words-packed                 what document 01 prints for each word that settings cases, from standard input, pack to
+//!     oracle words                        what document 01 prints for such words, by brute force over the Rust's records
 #![allow(dead_code)]
 
 mod params;
@@ -20,6 +24,7 @@ mod analyse {
 
 mod random;
 mod settings;
+mod words;
 
 fn main() {
     let words: Vec<String> = std::env::args().skip(1).collect();
@@ -27,11 +32,15 @@ fn main() {
     match words.first().map(String::as_str) {
         Some("settings-cases") => settings::cases(number(1), number(2)),
         Some("settings") => settings::answers(),
+        Some("words-cases") => words::cases(number(1), number(2)),
+        Some("words-all") => words::all(),
+        Some("words-packed") => words::packed(),
+        Some("words") => words::answers(),
         _ => usage(),
     }
 }
 
 fn usage() -> ! {
-    eprintln!("usage: oracle settings-cases SEED COUNT | oracle settings");
+    eprintln!("usage: oracle SUBJECT-cases SEED COUNT | oracle words-all | oracle words-packed | oracle SUBJECT; SUBJECT: settings, words");
     std::process::exit(2)
 }

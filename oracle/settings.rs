@@ -12,7 +12,7 @@ const WILD: [i32; 10] = [0, -1, 5, 7, 100, -100, i32::MAX, i32::MIN, i32::MAX - 
 const SIDES: [i32; 22] = [1, 2, 3, 4, 5, 7, 8, 15, 16, 17, 31, 48, 64, 100, 1080, 1920, 16_383, 16_384, 16_385, 65_535, 65_536, 65_537];
 
 /// The ten values of a record, as words.
-fn words_of(r: &SuperOpts) -> [u32; 10] {
+pub fn words_of(r: &SuperOpts) -> [u32; 10] {
     [
         r.pel as u32, r.gpu as u32, r.scale_down as u32, r.scale_up as u32,
         r.full.into(), r.rc.into(), r.lean.into(), r.levels as u32, r.width as u32, r.height as u32,
@@ -25,7 +25,7 @@ fn print(out: &mut impl Write, words: &[u32]) {
 }
 
 /// The check on the settings that `has` names, and document 01's number.
-fn check(has: u32, w: &[u32]) -> Result<SuperOpts, u32> {
+pub fn check(has: u32, w: &[u32]) -> Result<SuperOpts, u32> {
     let number = |k: usize| Value::Number(f64::from(w[k] as i32));
     let flag = |k: usize| Value::Bool(w[k] != 0);
     let mut top = Vec::new();
@@ -59,13 +59,17 @@ fn accept(w: &[u32]) -> Result<SuperOpts, u32> {
     }
 }
 
+/// A case: settings to be checked, or a record to be tested.
+pub fn answer(w: &[u32]) -> Result<SuperOpts, u32> {
+    if w[0] == RECORD { accept(&w[1..]) } else { check(w[0], &w[1..]) }
+}
+
 pub fn answers() {
     let mut out = BufWriter::new(std::io::stdout().lock());
     for line in std::io::stdin().lock().lines() {
         let w: Vec<u32> = line.unwrap().split(' ').map(|x| u32::from_str_radix(x, 16).unwrap()).collect();
-        let checked = if w[0] == RECORD { accept(&w[1..]) } else { check(w[0], &w[1..]) };
         let mut answer = vec![0u32; 18];
-        match checked {
+        match self::answer(&w) {
             Ok(r) => {
                 answer[1..11].copy_from_slice(&words_of(&r));
                 let word = r.pack_data() as u64;

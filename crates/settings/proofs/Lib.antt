@@ -7,5 +7,8 @@ pub mod Fields
 pub mod Known
 pub mod Accepted
 pub mod Words
+pub mod Told
+pub mod Lines
+pub mod Printed
 pub mod ByHand
 pub mod Unique

@@ -1,4 +1,4 @@
--- One outcome: no second answer meets the contract of a public call. Each is stated over `Post`, what the checker itself reads of the call's `ensures`; none of these calls is lent anything, so the answer is all there is. Assumes nothing.
+-- One outcome: no second answer meets the contract of a public call. Each is stated over `Post`, what the checker itself reads of the call's `ensures`; none of these calls is lent anything to write, so the answer is all there is. Assumes nothing.
 use mathlib.Core.Path.{_≡_, sym, _∙_}
 use contract.Lifetimes.{Lfts}
 use borrow.Fn.Kinds.{Dens, resT, endedOf}
@@ -29,7 +29,16 @@ use Rattle.settings.proofs.numbers.to_bits.Kinds as to-bits-kinds
 use Rattle.settings.proofs.numbers.to_bits.Reads as to-bits-reads
 use Rattle.settings.proofs.numbers.from_bits.Kinds as from-bits-kinds
 use Rattle.settings.proofs.numbers.from_bits.Reads as from-bits-reads
-use Rattle.settings.proofs.Known.{tested-known, checked-known, packed-known, sized-known}
+use Rattle.settings.proofs.word.read_word.Kinds as read-word-kinds
+use Rattle.settings.proofs.word.read_word.Reads as read-word-reads
+use Rattle.settings.proofs.word.prepare_alike.Kinds as prepare-alike-kinds
+use Rattle.settings.proofs.word.prepare_alike.Reads as prepare-alike-reads
+use Rattle.settings.proofs.text.hex_word.Kinds as hex-word-kinds
+use Rattle.settings.proofs.text.hex_word.Reads as hex-word-reads
+use Rattle.settings.proofs.text.line_end.Kinds as line-end-kinds
+use Rattle.settings.proofs.text.line_end.Reads as line-end-reads
+use Rattle.settings.proofs.Lines.{end-known}
+use Rattle.settings.proofs.Known.{told-known, tested-known, checked-known, packed-known, sized-known}
 
 pub from-opt-unique : (κs : Lfts 0) (x : Dens κs from-opt-kinds.ps) (r s : resT from-opt-kinds.r κs .Denot) (e f : AtExit (endedOf 0 from-opt-kinds.ps from-opt-kinds.r) κs) → from-opt-reads.Post κs x r e → from-opt-reads.Post κs x s f → r ≡ s
 from-opt-unique κs x r s e f p q = checked-known r s (p ∙ sym q)
@@ -69,3 +78,15 @@ to-bits-unique κs x r s e f p q = p ∙ sym q
 
 pub from-bits-unique : (κs : Lfts 0) (x : Dens κs from-bits-kinds.ps) (r s : resT from-bits-kinds.r κs .Denot) (e f : AtExit (endedOf 0 from-bits-kinds.ps from-bits-kinds.r) κs) → from-bits-reads.Post κs x r e → from-bits-reads.Post κs x s f → r ≡ s
 from-bits-unique κs x r s e f p q = p ∙ sym q
+
+pub read-word-unique : (κs : Lfts 0) (x : Dens κs read-word-kinds.ps) (r s : resT read-word-kinds.r κs .Denot) (e f : AtExit (endedOf 0 read-word-kinds.ps read-word-kinds.r) κs) → read-word-reads.Post κs x r e → read-word-reads.Post κs x s f → r ≡ s
+read-word-unique κs x r s e f p q = told-known r s (p ∙ sym q)
+
+pub prepare-alike-unique : (κs : Lfts 0) (x : Dens κs prepare-alike-kinds.ps) (r s : resT prepare-alike-kinds.r κs .Denot) (e f : AtExit (endedOf 0 prepare-alike-kinds.ps prepare-alike-kinds.r) κs) → prepare-alike-reads.Post κs x r e → prepare-alike-reads.Post κs x s f → r ≡ s
+prepare-alike-unique κs x r s e f p q = p ∙ sym q
+
+pub hex-word-unique : (κs : Lfts 1) (x : Dens κs hex-word-kinds.ps) (r s : resT hex-word-kinds.r κs .Denot) (e f : AtExit (endedOf 1 hex-word-kinds.ps hex-word-kinds.r) κs) → hex-word-reads.Post κs x r e → hex-word-reads.Post κs x s f → r ≡ s
+hex-word-unique κs x r s e f p q = p ∙ sym q
+
+pub line-end-unique : (κs : Lfts 1) (x : Dens κs line-end-kinds.ps) (r s : resT line-end-kinds.r κs .Denot) (e f : AtExit (endedOf 1 line-end-kinds.ps line-end-kinds.r) κs) → line-end-reads.Post κs x r e → line-end-reads.Post κs x s f → r ≡ s
+line-end-unique κs x r s e f p q = end-known p q

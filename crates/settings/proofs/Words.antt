@@ -3,12 +3,18 @@ use mathlib.Core.Path.{_≡_, refl, sym, ap, _∙_}
 use mathlib.Core.Bool.{Bool, true, false, not}
 use Prim.Native.Nat.{ℕ, _^_, _<_}
 use native.Mathlib.Omega.{arith}
-use lib.Dec.{eqb}
+use lib.Dec.{eqb, ltb}
 use lib.IntN.{pos}
+use borrow.Author.Tests.{eqb-false, le-ltb, not-false}
+use Rattle.settings.specs.declared.refusal.Refusal.{Refusal}
 use Rattle.settings.specs.declared.super_opts.SuperOpts.{SuperOpts}
-use Rattle.settings.specs.Numbers.{isNat, toNat, bit}
-use Rattle.settings.specs.Check.{accepted, pelOf, lumaW, lumaH, levelCount}
-use Rattle.settings.specs.Word.{wordOf, bits}
+use Rattle.settings.specs.Limits.{mostPacked}
+use Rattle.settings.specs.Numbers.{isNat, toNat, bit, refuse}
+use Rattle.settings.specs.Check.{accepted, recordNo, pelOf, lumaW, lumaH, levelCount}
+use Rattle.settings.specs.Word.{wordOf, packNo, bits}
+use Rattle.settings.specs.Answers.{Answer, answer, number, packAnswer}
+use Rattle.settings.proofs.Refusals.{then-first, refuse-not}
+use Rattle.settings.proofs.Known.{number-some, given}
 use Rattle.settings.proofs.Accepted.{fine, sound, within, pos-pel, pos-gpu, pos-side, pos-levels}
 
 -- ---- a record's fields are small
@@ -49,6 +55,26 @@ small r e =
       rc = bit-small (r .rc);
       part = bit-small (not (r .full));
     }
+
+-- ---- packing refuses nothing else
+pub pack-none : (r : SuperOpts) → accepted r ≡ true → packNo r ≡ 0
+pack-none r e = rw (e, le-ltb mostPacked (levelCount r) (omega (arith, within r e .levels)))
+
+pub pack-accepted : (r : SuperOpts) → packNo r ≡ 0 → accepted r ≡ true
+pack-accepted r e = not-false (accepted r) (refuse-not (not (accepted r)) 5 (then-first (recordNo r) (refuse (ltb mostPacked (levelCount r)) 14) e))
+
+-- what a call of `pack_data` that gave a word says of the record, and one that gave a refusal
+pub packed-word : (r : SuperOpts) (w : ℕ) → answer 0 w ≡ packAnswer r → (accepted r ≡ true) × (w ≡ wordOf r)
+packed-word r w e =
+    let none : packNo r ≡ 0 = sym (ap (λ (a : Answer ℕ). a .no) e) in
+    (pack-accepted r none, ap (λ (a : Answer ℕ). a .value) (e ∙ sym (given (packNo r) (wordOf r) 0 none)))
+
+pub packed-not : (r : SuperOpts) (f : Refusal) → answer (number f) 0 ≡ packAnswer r → accepted r ≡ false
+packed-not r f e = go (accepted r) refl
+  where
+    go : (t : Bool) → accepted r ≡ t → t ≡ false
+    go true a = absurd (eqb-false (number f) 0 (number-some f) (ap (λ (x : Answer ℕ). x .no) e ∙ pack-none r a))
+    go false a = refl
 
 -- ---- the fields of its word
 module _ (r : SuperOpts) (s : Small r) where

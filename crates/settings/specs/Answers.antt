@@ -7,6 +7,7 @@ use Rattle.settings.specs.declared.refusal.Refusal.{Refusal}
 use Rattle.settings.specs.declared.refusal.Refusal.the-variants.{Pel, Gpu, Finest, Lean, Side, NoRecord, Shift, Pitch, SourcePitch, Source, Frame, Spill, Scratch, Levels, NoRow, NoCode, Halving, Upscale}
 use Rattle.settings.specs.declared.refusal.Tested.{Tested}
 use Rattle.settings.specs.declared.refusal.Tested.the-variants.{Fine, Refused as TestRefused}
+use Rattle.settings.specs.declared.super_opts.OptInt.the-variants.{Absent as NoInt}
 use Rattle.settings.specs.declared.super_opts.Settings.{Settings}
 use Rattle.settings.specs.declared.super_opts.SuperOpts.{SuperOpts}
 use Rattle.settings.specs.declared.super_opts.Checked.{Checked}
@@ -15,8 +16,12 @@ use Rattle.settings.specs.declared.super_opts.Packed.{Packed}
 use Rattle.settings.specs.declared.super_opts.Packed.the-variants.{Word, Refused as PackRefused}
 use Rattle.settings.specs.declared.super_opts.Sized.{Sized}
 use Rattle.settings.specs.declared.super_opts.Sized.the-variants.{Size, Refused as SizeRefused}
+use Rattle.settings.specs.declared.word.Description.{Description}
+use Rattle.settings.specs.declared.word.Told.{Told}
+use Rattle.settings.specs.declared.word.Told.the-variants.{Tells, Refused as ReadRefused}
 use Rattle.settings.specs.Check.{settled, settingsNo, recordNo, superHeight, superWidth}
 use Rattle.settings.specs.Word.{packNo, wordOf}
+use Rattle.settings.specs.Reading.{candidate, readNo, describe}
 
 -- "Numbers a call can give"
 abbrev pub number : Refusal → ℕ
@@ -83,6 +88,25 @@ heightAnswer r = complete (recordNo r) (pos (superHeight r)) (pos 0)
 abbrev pub widthAnswer : SuperOpts → Answer ℤ
 widthAnswer r = complete (recordNo r) (pos (superWidth r)) (pos 0)
 
+-- "a refused word an empty description"
+abbrev pub noDescription : Description
+noDescription =
+    record {
+      width = pos 0;
+      height = pos 0;
+      pel = pos 0;
+      levels = pos 0;
+      gpu = pos 0;
+      full = false;
+      rc = false;
+      lean = false;
+      down = NoInt;
+      up = NoInt;
+    }
+
+abbrev pub readAnswer : ℕ → Answer Description
+readAnswer v = complete (readNo v) (describe (candidate v)) noDescription
+
 -- ---- the enums
 abbrev pub tested : Tested → ℕ
 tested Fine = 0
@@ -99,3 +123,7 @@ packed (PackRefused f) = answer (number f) 0
 abbrev pub sized : Sized → Answer ℤ
 sized (Size n) = answer 0 n
 sized (SizeRefused f) = answer (number f) (pos 0)
+
+abbrev pub told : Told → Answer Description
+told (Tells d) = answer 0 d
+told (ReadRefused f) = answer (number f) noDescription

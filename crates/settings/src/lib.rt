@@ -3,7 +3,11 @@
 //     refusal       why a call is refused: document 01's numbers
 //     numbers       integers and bools read as numbers
 //     super_opts    settings, `SuperOpts` and its calls: check, accepted, word, super sizes
+//     word          a word read back, and two words compared
+//     text          the line that is printed for a line
 pub mod limits;
 pub mod numbers;
 pub mod refusal;
 pub mod super_opts;
+pub mod text;
+pub mod word;

@@ -1,0 +1,276 @@
+-- Reading a word, and the accepted records that pack to it: demand 3 as far as records go.
+-- First the record that a word spells; then `none-exact` (20), `tells-exact` (0), `halving-exact` (21), `upscale-exact` (22), `only-exact`. Assumes nothing.
+use mathlib.Core.Path.{_≡_, refl, sym, ap, _∙_, subst}
+use mathlib.Core.Logic.{_↔_, _⊎_, inl, inr}
+use mathlib.Core.Bool.{Bool, true, false, cond, not, _&&_, _||_}
+use Prim.Native.Nat.{ℕ}
+use native.Mathlib.Omega.{arith}
+use lib.Dec.{eqb}
+use lib.IntN.{ℤ, pos}
+use borrow.Author.Tests.{eqb-true, eq-eqb}
+use Rattle.settings.specs.declared.super_opts.SuperOpts.{SuperOpts}
+use Rattle.settings.specs.Numbers.{isNat, isI32, refuse, _then_}
+use Rattle.settings.specs.Check.{settingsNo, accepted}
+use Rattle.settings.specs.Word.{wordOf}
+use Rattle.settings.specs.Reading.{isSet, candidate, upMatters, downMatters, isCode, readNo, tellIf, describe, Packs, halvingOf, upscaleOf, HalvingOpen, UpscaleOpen}
+use Rattle.settings.proofs.Tests.{and-left, and-right}
+use Rattle.settings.proofs.Integers.{yes-no}
+use Rattle.settings.proofs.Accepted.{is-nat-pos, Fine, fine, fine-accepted, sound, pos-pel, pos-gpu, pos-side, pos-levels}
+use Rattle.settings.proofs.Words.{bit-back, not-not, small, word-height, word-width, word-pel, word-levels, word-other, word-lean, word-gpu, word-rc, word-part}
+
+-- ---- the record that a word spells
+-- r with other filters
+abbrev pub filtered : SuperOpts → ℤ → ℤ → SuperOpts
+filtered r down up =
+    record {
+      pel = r .pel;
+      gpu = r .gpu;
+      «scale_down» = down;
+      «scale_up» = up;
+      full = r .full;
+      rc = r .rc;
+      lean = r .lean;
+      levels = r .levels;
+      width = r .width;
+      height = r .height;
+    }
+
+-- down told as 4 or not, up not told
+abbrev pub canon : SuperOpts → SuperOpts
+canon r = filtered r (cond (isNat (r .«scale_down») 4) (pos 4) (pos 0)) (pos 0)
+
+cond-not : (t : Bool) (a b : ℤ) → cond (not t) a b ≡ cond t b a
+cond-not true a b = refl
+cond-not false a b = refl
+
+pub decoded : (r : SuperOpts) → accepted r ≡ true → candidate (wordOf r) ≡ canon r
+unfolding candidate
+decoded r e =
+    let s = small r e in
+    let o = sound r (fine r e .none) in
+    rw (word-pel r s, word-gpu r s, word-other r s, word-part r s, word-rc r s, word-lean r s, word-levels r s, word-width r s, word-height r s)
+    (rw (bit-back (not (isNat (r .«scale_down») 4)), bit-back (not (r .full)), bit-back (r .rc), bit-back (r .lean), not-not (r .full), cond-not (isNat (r .«scale_down») 4) (pos 0) (pos 4), pos-pel (r .pel) (o .pel), pos-gpu (r .gpu) (o .gpu), pos-levels r e, pos-side (r .width) (o .width), pos-side (r .height) (o .height)))
+
+-- ---- other filters under the same word
+-- as long as down stays 4 or stays another, and up is 0 off gpu 0
+module _ (r : SuperOpts) (down up : ℤ) (same : isNat down 4 ≡ isNat (r .«scale_down») 4) where
+  filtered-word : wordOf (filtered r down up) ≡ wordOf r
+  unfolding wordOf
+  filtered-word = rw same
+
+  filtered-no : settingsNo (filtered r down up) ≡ settingsNo r
+  unfolding settingsNo
+  filtered-no = rw same
+
+  filtered-accepted : accepted r ≡ true → (isNat (r .gpu) 0 || isNat up 0) ≡ true → accepted (filtered r down up) ≡ true
+  filtered-accepted e ok = let f = fine r e in fine-accepted (filtered r down up) (record { none = filtered-no ∙ f .none; up = ok; levels = f .levels })
+
+four-or-not : (t : Bool) → isNat (cond t (pos 4) (pos 0)) 4 ≡ t
+four-or-not true = refl
+four-or-not false = refl
+
+or-true : (t : Bool) → (t || true) ≡ true
+or-true true = refl
+or-true false = refl
+
+canon-word : (r : SuperOpts) → wordOf (canon r) ≡ wordOf r
+canon-word r = filtered-word r (cond (isNat (r .«scale_down») 4) (pos 4) (pos 0)) (pos 0) (four-or-not (isNat (r .«scale_down») 4))
+
+canon-accepted : (r : SuperOpts) → accepted r ≡ true → accepted (canon r) ≡ true
+canon-accepted r e = filtered-accepted r (cond (isNat (r .«scale_down») 4) (pos 4) (pos 0)) (pos 0) (four-or-not (isNat (r .«scale_down») 4)) e (or-true (isNat (r .gpu) 0))
+
+-- ---- a code
+pub packs-canon : (v : ℕ) (r : SuperOpts) → Packs v r → candidate v ≡ canon r
+packs-canon v r p = ap candidate (sym (p .word)) ∙ decoded r (p .good)
+
+pub packs-code : (v : ℕ) (r : SuperOpts) → Packs v r → isCode (candidate v) v ≡ true
+unfolding isCode
+packs-code v r p = rw (packs-canon v r p, canon-accepted r (p .good)) (eq-eqb (wordOf (canon r)) v (canon-word r ∙ p .word))
+
+four-fits : (t : Bool) → isI32 (cond t (pos 0) (pos 4)) ≡ true
+four-fits true = refl
+four-fits false = refl
+
+pub code-packs : (v : ℕ) → isCode (candidate v) v ≡ true → Packs v (candidate v)
+unfolding candidate isCode
+code-packs v e =
+    let r = candidate v in
+    record { down-fits = four-fits (isSet v 46); up-fits = refl; good = and-left (accepted r) (eqb (wordOf r) v) e; word = eqb-true (wordOf r) v (and-right (accepted r) (eqb (wordOf r) v) e) }
+
+-- a code under other filters
+filtered-packs : (v : ℕ) (down up : ℤ) → isCode (candidate v) v ≡ true → isI32 down ≡ true → isI32 up ≡ true → isNat down 4 ≡ isNat (candidate v .«scale_down») 4 → (isNat (candidate v .gpu) 0 || isNat up 0) ≡ true → Packs v (filtered (candidate v) down up)
+filtered-packs v down up e fd fu same ok =
+    let p = code-packs v e in
+    record { down-fits = fd; up-fits = fu; good = filtered-accepted (candidate v) down up same (p .good) ok; word = filtered-word (candidate v) down up same ∙ p .word }
+
+-- ---- the number, by its three tests
+abbrev halving : SuperOpts → Bool
+halving r = downMatters r && not (isNat (r .«scale_down») 4)
+
+abbrev upscale : SuperOpts → Bool
+upscale r = upMatters r && isNat (r .gpu) 0
+
+abbrev numberBy : Bool → Bool → Bool → ℕ
+numberBy c a b = refuse (not c) 20 then refuse a 21 then refuse b 22
+
+read-by : (v : ℕ) → readNo v ≡ numberBy (isCode (candidate v) v) (halving (candidate v)) (upscale (candidate v))
+unfolding readNo
+read-by v = refl
+
+-- the three tests of each number
+data Case : Bool → Bool → Bool → ℕ → Type 0 where
+  none : {a b : Bool} → Case false a b 20
+  open-down : {b : Bool} → Case true true b 21
+  open-up : Case true false true 22
+  tells : Case true false false 0
+
+case : (c a b : Bool) → Case c a b (numberBy c a b)
+case true true b = open-down
+case true false true = open-up
+case true false false = tells
+case false a b = none
+
+read-case : (v : ℕ) → Case (isCode (candidate v) v) (halving (candidate v)) (upscale (candidate v)) (readNo v)
+read-case v = rw (read-by v) (case (isCode (candidate v) v) (halving (candidate v)) (upscale (candidate v)))
+
+at-20 : {c a b : Bool} {n : ℕ} → Case c a b n → n ≡ 20 → c ≡ false
+at-20 none e = refl
+at-20 open-down e = absurd (omega arith)
+at-20 open-up e = absurd (omega arith)
+at-20 tells e = absurd (omega arith)
+
+at-21 : {c a b : Bool} {n : ℕ} → Case c a b n → n ≡ 21 → (c ≡ true) × (a ≡ true)
+at-21 none e = absurd (omega arith)
+at-21 open-down e = (refl, refl)
+at-21 open-up e = absurd (omega arith)
+at-21 tells e = absurd (omega arith)
+
+at-22 : {c a b : Bool} {n : ℕ} → Case c a b n → n ≡ 22 → (c ≡ true) × (a ≡ false) × (b ≡ true)
+at-22 none e = absurd (omega arith)
+at-22 open-down e = absurd (omega arith)
+at-22 open-up e = (refl, refl, refl)
+at-22 tells e = absurd (omega arith)
+
+at-0 : {c a b : Bool} {n : ℕ} → Case c a b n → n ≡ 0 → (c ≡ true) × (a ≡ false) × (b ≡ false)
+at-0 none e = absurd (omega arith)
+at-0 open-down e = absurd (omega arith)
+at-0 open-up e = absurd (omega arith)
+at-0 tells e = (refl, refl, refl)
+
+false-by : (t : Bool) → (t ≡ true → ⊥) → t ≡ false
+false-by true h = absurd (h refl)
+false-by false h = refl
+
+true-by : (t : Bool) → (t ≡ false → ⊥) → t ≡ true
+true-by true h = refl
+true-by false h = absurd (h refl)
+
+clash : (t : Bool) → t ≡ true → t ≡ false → ⊥
+clash t p q = yes-no (sym p ∙ q)
+
+-- ---- 20: "It answers "not a code" exactly if none packs to it"
+pub none-exact : (v : ℕ) → (readNo v ≡ 20) ↔ ((r : SuperOpts) → Packs v r → ⊥)
+none-exact v = (
+  λ e r p. clash (isCode (candidate v) v) (packs-code v r p) (at-20 (read-case v) e),
+  λ h. read-by v ∙ ap (λ (c : Bool). numberBy c (halving (candidate v)) (upscale (candidate v))) (false-by (isCode (candidate v) v) (λ e. h (candidate v) (code-packs v e))),
+)
+
+-- ---- 0: "it then tells the width, .. they all have, and their down and up where document 01 says these matter"
+tell-down : (m f : Bool) (z : ℤ) → isNat z 4 ≡ f → (m && not (isNat (cond f (pos 4) (pos 0)) 4)) ≡ false → tellIf m (cond f (pos 4) (pos 0)) ≡ tellIf m z
+tell-down true true z e h = ap (tellIf true) (sym (is-nat-pos z 4 e))
+tell-down true false z e h = cc
+tell-down false f z e h = refl
+
+tell-up : (m g : Bool) (z : ℤ) → (g || isNat z 0) ≡ true → (m && g) ≡ false → tellIf m (pos 0) ≡ tellIf m z
+tell-up true true z e h = cc
+tell-up true false z e h = ap (tellIf true) (sym (is-nat-pos z 0 e))
+tell-up false g z e h = refl
+
+canon-told : (r : SuperOpts) → Fine r → halving (canon r) ≡ false → upscale (canon r) ≡ false → describe (canon r) ≡ describe r
+canon-told r f a b = rw (tell-down (downMatters r) (isNat (r .«scale_down») 4) (r .«scale_down») refl a, tell-up (upMatters r) (isNat (r .gpu) 0) (r .«scale_up») (f .up) b)
+
+pub tells-exact : (v : ℕ) → readNo v ≡ 0 → (r : SuperOpts) → Packs v r → describe (candidate v) ≡ describe r
+tells-exact v e r p =
+    let known = at-0 (read-case v) e in
+    let same = packs-canon v r p in
+    ap describe same ∙ canon-told r (fine r (p .good)) (subst (λ (q : SuperOpts). halving q ≡ false) same (known .1)) (subst (λ (q : SuperOpts). upscale q ≡ false) same (known .2))
+
+-- ---- 21
+no-four : (t : Bool) → not t ≡ true → false ≡ t
+no-four true e = absurd (yes-no (sym e))
+no-four false e = refl
+
+-- a record of an open halving filter has a down that isn't 4, since down 4 is one filter
+four-is : (z y : ℤ) → isNat z 4 ≡ true → isNat y 4 ≡ true → halvingOf z ≡ halvingOf y
+four-is z y p q = ap halvingOf (is-nat-pos z 4 p ∙ sym (is-nat-pos y 4 q))
+
+canon-four : (v : ℕ) (r : SuperOpts) → Packs v r → isNat (candidate v .«scale_down») 4 ≡ isNat (r .«scale_down») 4
+canon-four v r p = ap (λ (q : SuperOpts). isNat (q .«scale_down») 4) (packs-canon v r p) ∙ four-or-not (isNat (r .«scale_down») 4)
+
+halving-witness : (v : ℕ) → readNo v ≡ 21 → HalvingOpen v
+halving-witness v e =
+    let k = at-21 (read-case v) e in
+    let c = candidate v in
+    let other = no-four (isNat (c .«scale_down») 4) (and-right (downMatters c) (not (isNat (c .«scale_down») 4)) (k .1)) in
+    record {
+      one = filtered c (pos 0) (pos 0);
+      other = filtered c (pos 5) (pos 0);
+      one-packs = filtered-packs v (pos 0) (pos 0) (k .0) refl refl other (or-true (isNat (c .gpu) 0));
+      other-packs = filtered-packs v (pos 5) (pos 0) (k .0) refl refl other (or-true (isNat (c .gpu) 0));
+      matters = and-left (downMatters c) (not (isNat (c .«scale_down») 4)) (k .1);
+      differ = λ h. omega arith;
+    }
+
+not-four : (v : ℕ) (h : HalvingOpen v) → isNat (h .one .«scale_down») 4 ≡ false
+not-four v h = false-by (isNat (h .one .«scale_down») 4) (λ e. h .differ (four-is (h .one .«scale_down») (h .other .«scale_down») e (sym (canon-four v (h .other) (h .other-packs)) ∙ canon-four v (h .one) (h .one-packs) ∙ e)))
+
+halving-is : (v : ℕ) → HalvingOpen v → halving (candidate v) ≡ true
+halving-is v h = rw (canon-four v (h .one) (h .one-packs), not-four v h, packs-canon v (h .one) (h .one-packs), h .matters)
+
+pub halving-exact : (v : ℕ) → (readNo v ≡ 21) ↔ HalvingOpen v
+halving-exact v = (halving-witness v, λ h. read-by v ∙ rw (packs-code v (h .one) (h .one-packs), halving-is v h))
+
+-- ---- 22
+zero-is : (z y : ℤ) → isNat z 0 ≡ true → isNat y 0 ≡ true → upscaleOf z ≡ upscaleOf y
+zero-is z y p q = ap upscaleOf (is-nat-pos z 0 p ∙ sym (is-nat-pos y 0 q))
+
+or-right : (a b : Bool) → a ≡ false → (a || b) ≡ true → b ≡ true
+or-right true b e f = cc
+or-right false b e f = f
+
+upscale-witness : (v : ℕ) → readNo v ≡ 22 → UpscaleOpen v
+upscale-witness v e =
+    let k = at-22 (read-case v) e in
+    let c = candidate v in
+    let zero : isNat (c .gpu) 0 ≡ true = and-right (upMatters c) (isNat (c .gpu) 0) (k .2) in
+    record {
+      one = filtered c (c .«scale_down») (pos 0);
+      other = filtered c (c .«scale_down») (pos 1);
+      one-packs = filtered-packs v (c .«scale_down») (pos 0) (k .0) (code-packs v (k .0) .down-fits) refl refl (or-true (isNat (c .gpu) 0));
+      other-packs = filtered-packs v (c .«scale_down») (pos 1) (k .0) (code-packs v (k .0) .down-fits) refl refl (rw zero);
+      matters = and-left (upMatters c) (isNat (c .gpu) 0) (k .2);
+      differ = λ h. omega arith;
+    }
+
+-- a record of an open upscale filter is of gpu 0: off it up is 0 in both
+on-gpu-0 : (v : ℕ) (h : UpscaleOpen v) → isNat (h .one .gpu) 0 ≡ true
+on-gpu-0 v h = true-by (isNat (h .one .gpu) 0) (λ e. h .differ (zero-is (h .one .«scale_up») (h .other .«scale_up») (or-right (isNat (h .one .gpu) 0) (isNat (h .one .«scale_up») 0) e (fine (h .one) (h .one-packs .good) .up)) (or-right (isNat (h .other .gpu) 0) (isNat (h .other .«scale_up») 0) (ap (λ (q : SuperOpts). isNat (q .gpu) 0) (sym (packs-canon v (h .other) (h .other-packs)) ∙ packs-canon v (h .one) (h .one-packs)) ∙ e) (fine (h .other) (h .other-packs .good) .up))))
+
+upscale-is : (v : ℕ) → UpscaleOpen v → upscale (candidate v) ≡ true
+upscale-is v h = rw (packs-canon v (h .one) (h .one-packs), on-gpu-0 v h, h .matters)
+
+pub upscale-exact : (v : ℕ) → (readNo v ≡ 22) ↔ (UpscaleOpen v × (HalvingOpen v → ⊥))
+upscale-exact v = (
+  λ e. (upscale-witness v e, λ h. clash (halving (candidate v)) (halving-is v h) (at-22 (read-case v) e .1)),
+  λ t. read-by v ∙ rw (packs-code v (t .0 .one) (t .0 .one-packs), false-by (halving (candidate v)) (λ e. t .1 (halving-witness v (read-by v ∙ rw (packs-code v (t .0 .one) (t .0 .one-packs), e)))), upscale-is v (t .0)),
+)
+
+-- no other number
+pub only-exact : (v : ℕ) → (readNo v ≡ 0) ⊎ (readNo v ≡ 20) ⊎ (readNo v ≡ 21) ⊎ (readNo v ≡ 22)
+only-exact v = of (read-case v)
+  where
+    of : {c a b : Bool} {n : ℕ} → Case c a b n → (n ≡ 0) ⊎ (n ≡ 20) ⊎ (n ≡ 21) ⊎ (n ≡ 22)
+    of none = inr (inl refl)
+    of open-down = inr (inr (inl refl))
+    of open-up = inr (inr (inr refl))
+    of tells = inl refl

@@ -1,0 +1,26 @@
+-- `prepare_alike` meets its contract. Assumes nothing.
+use borrow.Author.Needs.{needs}
+use Rattle.settings.specs.Reading.{alike}
+use Rattle.settings.proofs.word.prepare_alike.Statement.{statement}
+use Rattle.settings.proofs.word.prepare_alike.Tie as tie
+
+names-build-requires : tie.Need-names-build-requires
+names-build-requires c κs = search needs
+
+names-build-requires-2 : tie.Need-names-build-requires-2
+names-build-requires-2 c κs = search needs
+
+bare-requires : tie.Need-bare-requires
+bare-requires c κs = search needs
+
+bare-requires-2 : tie.Need-bare-requires-2
+bare-requires-2 c κs = search needs
+
+returns : tie.Need-returns
+unfolding alike
+returns c = rw (c .before .before .before .names-build .ensures, c .before .before .names-build2 .ensures, c .before .bare .ensures, c .bare2 .ensures)
+
+pub prepare-alike-spec : {M : Type 1} → statement M
+prepare-alike-spec =
+    tie.close
+    (tie.spec names-build-requires names-build-requires-2 bare-requires bare-requires-2 returns)
