@@ -2,6 +2,8 @@
 //! `scripts/oracle` lays its files beside this one and builds it. Usage:
 //!     oracle settings-cases SEED COUNT    cases for `replay_settings`, a line each
 //!     oracle settings                     the Rust's answers to such cases, from standard input
+//!     oracle rows-cases SEED PASSES       cases for `replay_rows`
+//!     oracle rows                         the Rust's answers to such cases, from standard input
 //!     oracle words-cases SEED COUNT       words of accepted records, and damaged ones
 //!     oracle words-all                    every word of sides 1 to 24, and its neighbour
 //!     oracle words-packed                 what document 01 prints for each word that settings cases, from standard input, pack to
@@ -10,6 +12,8 @@
 
 mod params;
 mod super_opts;
+#[path = "host.rs"]
+mod super_build;
 
 mod analyse {
     // What `SuperOpts::from_params` names; its own file isn't part of what is ported.
@@ -23,6 +27,7 @@ mod analyse {
 }
 
 mod random;
+mod rows;
 mod settings;
 mod words;
 
@@ -32,6 +37,8 @@ fn main() {
     match words.first().map(String::as_str) {
         Some("settings-cases") => settings::cases(number(1), number(2)),
         Some("settings") => settings::answers(),
+        Some("rows-cases") => rows::cases(number(1), number(2)),
+        Some("rows") => rows::answers(),
         Some("words-cases") => words::cases(number(1), number(2)),
         Some("words-all") => words::all(),
         Some("words-packed") => words::packed(),
@@ -41,6 +48,6 @@ fn main() {
 }
 
 fn usage() -> ! {
-    eprintln!("usage: oracle SUBJECT-cases SEED COUNT | oracle words-all | oracle words-packed | oracle SUBJECT; SUBJECT: settings, words");
+    eprintln!("usage: oracle SUBJECT-cases SEED COUNT | oracle words-all | oracle words-packed | oracle SUBJECT; SUBJECT: settings, rows, words");
     std::process::exit(2)
 }
