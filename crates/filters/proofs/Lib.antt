@@ -1,0 +1,9 @@
+pub mod Tables
+pub mod Filling
+pub mod Integers
+pub mod Kernels
+pub mod Bytes
+pub mod Chosen
+pub mod Pairs
+pub mod Places
+pub mod ByHand

@@ -1,0 +1,162 @@
+-- Half samples: what each place takes, a row down the rows, and a row whose places between the edges were written over. Assumes nothing.
+use mathlib.Core.Path.{_≡_, refl, sym, ap, _∙_}
+use mathlib.Core.Bool.{Bool, true, false, _||_}
+use mathlib.Core.List.{List, _++_}
+use mathlib.Core.Logic.{⊎-elim}
+use Prim.Native.Nat.{ℕ, _+_, _-_, _≤_, _<_}
+use native.Mathlib.Nat.{le-trans, min-le-left}
+use native.Mathlib.Omega.{arith}
+use lib.Dec.{leb, ltb}
+use lib.ListN.{length, getD, set, take, drop, length-append, length-take, length-drop, List·getD-append}
+use lib.Seq.{getD-drop, length-take-le}
+use borrow.Author.Tests.{lt-ltb, le-ltb, le-leb, lt-leb}
+use Rattle.filters.specs.declared.half_pel.HalfPel.{HalfPel}
+use Rattle.filters.specs.declared.half_pel.HalfPel.the-variants.{CatmullRom, Wiener}
+use Rattle.filters.specs.Row.{tab, meanOf, meansOf, sixAt, sixes, around}
+use Rattle.filters.specs.Refine.{leadOf, rearOf, halfPel, placed, nextAt, nextMeans, halfHorizontal, halfVertical}
+use Rattle.filters.proofs.Integers.{below-or}
+use Rattle.filters.proofs.Filling.{Filled, filled-more, filled-whole}
+use Rattle.filters.proofs.Tables.{tab-at, tab-length, tab-ext, take-tab, back-tab}
+
+module _ (k : HalfPel) (i n m2 m1 c0 p1 p2 p3 : ℕ) where
+  placed-copy : n ≤ i + 1 → c0 ≡ placed k i n m2 m1 c0 p1 p2 p3
+  placed-copy le = rw (le-leb n (i + 1) le)
+
+  placed-mean : i + 1 < n → (ltb i (leadOf k) || leb n (i + rearOf k)) ≡ true → meanOf c0 p1 ≡ placed k i n m2 m1 c0 p1 p2 p3
+  placed-mean lt e = rw (lt-leb n (i + 1) lt, e)
+
+  placed-kernel : i + 1 < n → (ltb i (leadOf k) || leb n (i + rearOf k)) ≡ false → halfPel k m2 m1 c0 p1 p2 p3 ≡ placed k i n m2 m1 c0 p1 p2 p3
+  placed-kernel lt e = rw (lt-leb n (i + 1) lt, e)
+
+-- ---- down the rows
+-- a row counted from the end
+pub near-end : (y h t : ℕ) → leb (h - y) t ≡ leb h (y + t)
+near-end y h t =
+    ⊎-elim
+    (λ (lt : y + t < h). rw (lt-leb (h - y) t (omega arith), lt-leb h (y + t) lt))
+    (λ (le : h ≤ y + t). rw (le-leb (h - y) t (omega arith), le-leb h (y + t) le))
+    (below-or (y + t) h)
+
+module _ (k : HalfPel) (y h n : ℕ) (m2 m1 c0 p1 p2 p3 : List ℕ) where
+  pub vertical-copy : h ≤ y + 1 → n ≤ length c0 → take n c0 ≡ halfVertical k y h n m2 m1 c0 p1 p2 p3
+  unfolding halfVertical sixes
+  vertical-copy le long = take-tab n c0 long ∙ tab-ext (λ i. getD c0 i 0) (sixAt (placed k y h) m2 m1 c0 p1 p2 p3) n (λ i lt. placed-copy k y h _ _ (getD c0 i 0) _ _ _ le)
+
+  pub vertical-mean : y + 1 < h → (ltb y (leadOf k) || leb h (y + rearOf k)) ≡ true → meansOf n c0 p1 ≡ halfVertical k y h n m2 m1 c0 p1 p2 p3
+  unfolding halfVertical sixes meansOf
+  vertical-mean lt e = tab-ext (λ i. meanOf (getD c0 i 0) (getD p1 i 0)) (sixAt (placed k y h) m2 m1 c0 p1 p2 p3) n (λ i h. placed-mean k y _ _ _ _ _ _ _ lt e)
+
+  pub vertical-kernel : y + 1 < h → (ltb y (leadOf k) || leb h (y + rearOf k)) ≡ false → sixes (halfPel k) n m2 m1 c0 p1 p2 p3 ≡ halfVertical k y h n m2 m1 c0 p1 p2 p3
+  unfolding halfVertical sixes
+  vertical-kernel lt e = tab-ext (sixAt (halfPel k) m2 m1 c0 p1 p2 p3) (sixAt (placed k y h) m2 m1 c0 p1 p2 p3) n (λ i h. placed-kernel k y _ _ _ _ _ _ _ lt e)
+
+-- ---- along a row
+rear-some : (k : HalfPel) → 1 < rearOf k
+rear-some CatmullRom = omega arith
+rear-some Wiener = omega arith
+
+or-true : (t : Bool) → (t || true) ≡ true
+or-true true = refl
+or-true false = refl
+
+next-inner : (n : ℕ) (r : List ℕ) (i : ℕ) → i + 1 < n → meanOf (getD r i 0) (getD r (i + 1) 0) ≡ nextAt n r i
+unfolding nextAt
+next-inner n r i lt = rw (lt-leb n (i + 1) lt)
+
+next-last : (n : ℕ) (r : List ℕ) (i : ℕ) → n ≤ i + 1 → getD r i 0 ≡ nextAt n r i
+unfolding nextAt
+next-last n r i le = rw (le-leb n (i + 1) le)
+
+-- means of a row with itself from the next place on, and the last place stored
+pub next-made : (n : ℕ) (o r t m : List ℕ) → length o ≡ n → 0 < n → t ≡ drop 1 r → m ≡ meansOf (length (take (n - 1) o)) r t → set (m ++ drop (n - 1) o) (n - 1) (getD r (n - 1) 0) ≡ nextMeans n r
+unfolding nextMeans meansOf
+next-made n o r t m long some next means =
+    let f : ℕ → ℕ = λ i. meanOf (getD r i 0) (getD t i 0) in
+    let k : length (take (n - 1) o) ≡ n - 1 = length-take-le (n - 1) o (omega arith) in
+    let is : m ≡ tab f (n - 1) = means ∙ ap (tab f) k in
+    let ml : length m ≡ n - 1 = ap length is ∙ tab-length f (n - 1) in
+    let filled : Filled (nextAt n r) (m ++ drop (n - 1) o) n (n - 1) = record {
+      most = omega arith;
+      long = simp (length-append, length-drop) (omega arith);
+      done = λ j lt.
+          List·getD-append m (drop (n - 1) o) 0 j (omega arith)
+          ∙ ap (λ (l : List ℕ). getD l j 0) is
+          ∙ tab-at f (n - 1) j lt
+          ∙ ap (λ (x : ℕ). meanOf (getD r j 0) x) (ap (λ (l : List ℕ). getD l j 0) next ∙ getD-drop 1 r j 0 ∙ ap (λ (i : ℕ). getD r i 0) (omega arith))
+          ∙ next-inner n r j (omega arith);
+    } in
+    filled-whole (filled-more filled (omega arith) (next-last n r (n - 1) (omega arith))) (omega arith)
+
+module _ (k : HalfPel) (n : ℕ) (r : List ℕ) where
+  by-edges : (i : ℕ) → (ltb i (leadOf k) || leb n (i + rearOf k)) ≡ true → nextAt n r i ≡ around (placed k i n) r i
+  by-edges i e =
+      ⊎-elim
+      (λ (lt : i + 1 < n). sym (next-inner n r i lt) ∙ placed-mean k i n _ _ _ _ _ _ lt e)
+      (λ (le : n ≤ i + 1). sym (next-last n r i le) ∙ placed-copy k i n _ _ _ _ _ _ le)
+      (below-or (i + 1) n)
+
+  at-front : (i : ℕ) → i < leadOf k → (ltb i (leadOf k) || leb n (i + rearOf k)) ≡ true
+  at-front i lt = rw (lt-ltb i (leadOf k) lt)
+
+  at-rear : (i : ℕ) → n ≤ i + rearOf k → (ltb i (leadOf k) || leb n (i + rearOf k)) ≡ true
+  at-rear i le = rw (le-leb n (i + rearOf k) le) (or-true (ltb i (leadOf k)))
+
+  between : (i : ℕ) → leadOf k ≤ i → i + rearOf k < n → (ltb i (leadOf k) || leb n (i + rearOf k)) ≡ false
+  between i le lt = rw (le-ltb i (leadOf k) le, lt-leb n (i + rearOf k) lt)
+
+  -- a row too short for the kernel
+  pub short-row : n ≤ leadOf k + rearOf k → nextMeans n r ≡ halfHorizontal k n r
+  unfolding nextMeans halfHorizontal
+  short-row few =
+      tab-ext (nextAt n r) (λ i. around (placed k i n) r i) n
+      (λ i lt. by-edges i (⊎-elim (λ (l : i < leadOf k). at-front i l) (λ (g : leadOf k ≤ i). at-rear i (omega arith)) (below-or i (leadOf k))))
+
+-- the taps of the place leadOf k + j, as parts of the row give them
+taps : (k : HalfPel) (r : List ℕ) (j : ℕ) → halfPel k (getD r j 0) (getD r (leadOf k - 1 + j) 0) (getD r (leadOf k + j) 0) (getD r (leadOf k + 1 + j) 0) (getD r (leadOf k + 2 + j) 0) (getD r (leadOf k + 3 + j) 0) ≡ around (halfPel k) r (leadOf k + j)
+taps CatmullRom r j =
+    let e1 : 1 - 1 + j ≡ 1 + j - 1 = omega arith in
+    let e3 : 1 + 1 + j ≡ 1 + j + 1 = omega arith in
+    let e4 : 1 + 2 + j ≡ 1 + j + 2 = omega arith in
+    cc
+taps Wiener r j =
+    let e0 : j ≡ 2 + j - 2 = omega arith in
+    let e1 : 2 - 1 + j ≡ 2 + j - 1 = omega arith in
+    let e3 : 2 + 1 + j ≡ 2 + j + 1 = omega arith in
+    let e4 : 2 + 2 + j ≡ 2 + j + 2 = omega arith in
+    let e5 : 2 + 3 + j ≡ 2 + j + 3 = omega arith in
+    cc
+
+-- a part of the row reaches as far as the kernel's places
+pub part-fits : (o r x : List ℕ) (n z a t : ℕ) → n ≤ length r → 3 ≤ z → a + z < n → t ≤ a + 3 → x ≡ drop t r → length (take (n - z - a) (drop a o)) ≤ length x
+part-fits o r x n z a t room rear many near e = rw (e, length-take (n - z - a) (drop a o), length-drop t r) (le-trans (min-le-left (n - z - a) (length (drop a o))) (omega arith))
+
+-- parts of the row from the taps of its first kernel place on
+pub record Parts (k : HalfPel) (r m1 c0 p1 p2 p3 : List ℕ) : Type 0 where
+  pub at1 : m1 ≡ drop (leadOf k - 1) r
+  pub at2 : c0 ≡ drop (leadOf k) r
+  pub at3 : p1 ≡ drop (leadOf k + 1) r
+  pub at4 : p2 ≡ drop (leadOf k + 2) r
+  pub at5 : p3 ≡ drop (leadOf k + 3) r
+
+module _ (k : HalfPel) (n : ℕ) (r m1 c0 p1 p2 p3 : List ℕ) (parts : Parts k r m1 c0 p1 p2 p3) (many : leadOf k + rearOf k < n) where
+  part-taps : (j : ℕ) → sixAt (halfPel k) r m1 c0 p1 p2 p3 j ≡ around (halfPel k) r (leadOf k + j)
+  part-taps j =
+      rw (parts .at1, parts .at2, parts .at3, parts .at4, parts .at5)
+      (rw (getD-drop (leadOf k - 1) r j 0, getD-drop (leadOf k) r j 0, getD-drop (leadOf k + 1) r j 0, getD-drop (leadOf k + 2) r j 0, getD-drop (leadOf k + 3) r j 0) (taps k r j))
+
+  -- the edges' row with the kernel's places written over
+  pub long-row : (o s : List ℕ) → o ≡ nextMeans n r → s ≡ sixes (halfPel k) (length (take (n - rearOf k - leadOf k) (drop (leadOf k) o))) r m1 c0 p1 p2 p3 → take (leadOf k) o ++ (s ++ drop (n - rearOf k - leadOf k) (drop (leadOf k) o)) ≡ halfHorizontal k n r
+  unfolding halfHorizontal nextMeans sixes
+  long-row o s edges kernel =
+      let f : ℕ → ℕ = λ i. around (placed k i n) r i in
+      let inner : ℕ → ℕ = sixAt (halfPel k) r m1 c0 p1 p2 p3 in
+      let a = leadOf k in
+      let e = n - rearOf k in
+      let ol : length o ≡ n = ap length edges ∙ tab-length (nextAt n r) n in
+      let sl : length (take (e - a) (drop a o)) ≡ e - a = length-take-le (e - a) (drop a o) (omega (arith, length-drop a o)) in
+      let is : s ≡ tab inner (e - a) = kernel ∙ ap (tab inner) sl in
+      let edge : (i : ℕ) → i < n → (ltb i (leadOf k) || leb n (i + rearOf k)) ≡ true → getD o i 0 ≡ f i = λ i lt t. ap (λ (l : List ℕ). getD l i 0) edges ∙ tab-at (nextAt n r) n i lt ∙ by-edges k n r i t in
+      back-tab o s a e (omega arith) (omega arith) (ap length is ∙ tab-length inner (e - a)) f n ol
+      (λ i lt. edge i (omega arith) (at-front k n r i lt))
+      (λ j lt. ap (λ (l : List ℕ). getD l j 0) is ∙ tab-at inner (e - a) j lt ∙ part-taps j ∙ placed-kernel k (a + j) n _ _ _ _ _ _ (omega (arith, rear-some k)) (between k n r (a + j) (omega arith) (omega arith)))
+      (λ i le lt. edge i lt (at-rear k n r i (omega arith)))

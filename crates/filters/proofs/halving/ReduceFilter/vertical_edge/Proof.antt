@@ -1,0 +1,19 @@
+-- `ReduceFilter::vertical_edge` meets its contract. Assumes nothing.
+use native.Mathlib.Omega.{arith}
+use borrow.Author.Needs.{needs}
+use Rattle.filters.proofs.halving.ReduceFilter.vertical_edge.Statement.{statement}
+use Rattle.filters.proofs.halving.ReduceFilter.vertical_edge.Tie as tie
+
+-- `ReduceFilter::vertical_edge` meets its contract. Assumes nothing.
+
+ends-requires : tie.Need-ends-requires
+ends-requires c κs = search needs
+
+add-result : tie.Need-add-result
+add-result c = omega arith
+
+returns : tie.Need-returns
+returns c = rw (c .ends .ensures)
+
+pub vertical-edge-spec : {M : Type 1} → statement M
+vertical-edge-spec = tie.close (tie.spec ends-requires add-result returns)

@@ -1,0 +1,45 @@
+-- Document 01, "Refining": the half-pel kernels, and which place takes what.
+use Prim.Native.Nat.{ℕ, _+_, _*_, _-_, _/_, min}
+use mathlib.Core.Bool.{cond, _||_}
+use mathlib.Core.List.{List}
+use lib.Dec.{leb, ltb}
+use lib.ListN.{getD}
+use Rattle.filters.specs.declared.half_pel.HalfPel.{HalfPel}
+use Rattle.filters.specs.declared.half_pel.HalfPel.the-variants.{CatmullRom, Wiener}
+use Rattle.filters.specs.Row.{Six, tab, meanOf, sixes, around}
+
+-- "Bicubic: (-(m1 + p2) + 9(c0 + p1) + 8) >> 4. Wiener: (m2 - 5m1 + 20c0 + 20p1 - 5p2 + p3 + 16) >> 5. Shifts round down; results are held to 0..255."
+-- A difference below 0 counts as 0, which is what holding makes of it: proofs/Kernels has both over the integers.
+abbrev pub halfPel : HalfPel → Six
+halfPel CatmullRom m2 m1 c0 p1 p2 p3 = min 255 ((9 * (c0 + p1) + 8 - (m1 + p2)) / 16)
+halfPel Wiener m2 m1 c0 p1 p2 p3 = min 255 ((m2 + 20 * (c0 + p1) + p3 + 16 - 5 * (m1 + p2)) / 32)
+
+-- "The first 1 (Wiener 2) and, before the copy, those within 3 (Wiener 4) of the end are means with the next."
+abbrev pub leadOf : HalfPel → ℕ
+leadOf CatmullRom = 1
+leadOf Wiener = 2
+
+-- counted from the end, the copied place being the first: of 5 rows by the bicubic, row 4 is the copy, 2 and 3 are means, and so is 0; only row 1 takes the kernel
+abbrev pub rearOf : HalfPel → ℕ
+rearOf CatmullRom = 3
+rearOf Wiener = 4
+
+-- place i of n: "The last place is a copy."
+abbrev pub placed : HalfPel → ℕ → ℕ → Six
+placed k i n m2 m1 c0 p1 p2 p3 =
+    cond (leb n (i + 1)) c0 (cond (ltb i (leadOf k) || leb n (i + rearOf k)) (meanOf c0 p1) (halfPel k m2 m1 c0 p1 p2 p3))
+
+-- a row of n bytes by the edges' rule alone: means with the next, and the copied place
+unfoldable pub nextAt : ℕ → List ℕ → ℕ → ℕ
+nextAt n r i = cond (leb n (i + 1)) (getD r i 0) (meanOf (getD r i 0) (getD r (i + 1) 0))
+
+unfoldable pub nextMeans : ℕ → List ℕ → List ℕ
+nextMeans n r = tab (nextAt n r) n
+
+-- horizontal: a row of n bytes
+unfoldable pub halfHorizontal : HalfPel → ℕ → List ℕ → List ℕ
+halfHorizontal k n r = tab (λ i. around (placed k i n) r i) n
+
+-- vertical: row y of h, n bytes, from the six rows around it
+unfoldable pub halfVertical : HalfPel → ℕ → ℕ → ℕ → List ℕ → List ℕ → List ℕ → List ℕ → List ℕ → List ℕ → List ℕ
+halfVertical k y h n m2 m1 c0 p1 p2 p3 = sixes (placed k y h) n m2 m1 c0 p1 p2 p3

@@ -1,0 +1,39 @@
+ghost use mathlib.Core.Path.{_≡_};
+ghost use Prim.Native.Nat.{_≤_};
+ghost use lib.ListN.{length, take, replicate};
+ghost use Rattle.filters.specs.Row.{meanOf, meansOf};
+
+pub fn mean(a: u8, b: u8) -> u8
+    ensures { λ r. ⌜ r ≡ meanOf a b ⌝ }
+{
+    (((a as u16) + (b as u16) + 1) >> 1) as u8
+}
+
+pub fn mean_row(out: &mut [u8], a: &[u8], b: &[u8])
+    requires { ⌜ (length (now out) ≤ length (now a)) × (length (now out) ≤ length (now b)) ⌝ }
+    ensures { λ r. ⌜ now (out .exit) ≡ meansOf (length (now (out .entry))) (now (a .entry)) (now (b .entry)) ⌝ }
+{
+    let n = out.len();
+    for i in 0..n {
+        out[i] = mean(a[i], b[i]);
+    }
+}
+
+pub fn copy_row(out: &mut [u8], row: &[u8])
+    requires { ⌜ length (now out) ≤ length (now row) ⌝ }
+    ensures { λ r. ⌜ now (out .exit) ≡ take (length (now (out .entry))) (now (row .entry)) ⌝ }
+{
+    let n = out.len();
+    for i in 0..n {
+        out[i] = row[i];
+    }
+}
+
+pub fn zero_row(out: &mut [u8])
+    ensures { λ r. ⌜ now (out .exit) ≡ replicate (length (now (out .entry))) 0 ⌝ }
+{
+    let n = out.len();
+    for i in 0..n {
+        out[i] = 0;
+    }
+}
