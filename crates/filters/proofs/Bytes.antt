@@ -12,7 +12,7 @@ use Rattle.filters.specs.declared.half_pel.HalfPel.{HalfPel}
 use Rattle.filters.specs.declared.half_pel.HalfPel.the-variants.{CatmullRom, Wiener}
 use Rattle.filters.specs.Row.{Six, tab, meanOf, meansOf, sixAt, sixes, around}
 use Rattle.filters.specs.Halve.{isEdge, weigh, restOf, headed, horizontalAt, horizontalRow}
-use Rattle.filters.specs.Refine.{leadOf, rearOf, halfPel, placed, halfHorizontal, halfVertical}
+use Rattle.filters.specs.Refine.{leadOf, tailOf, halfPel, placed, halfHorizontal, halfVertical}
 use Rattle.filters.proofs.Integers.{below-or}
 use Rattle.filters.proofs.Tables.{tab-at, tab-length}
 
@@ -52,7 +52,7 @@ half-byte CatmullRom m2 m1 c0 p1 p2 p3 h2 h1 g0 g1 g2 g3 = omega arith
 half-byte Wiener m2 m1 c0 p1 p2 p3 h2 h1 g0 g1 g2 g3 = omega arith
 
 placed-byte : (k : HalfPel) (i n : ℕ) → ByteRule (placed k i n)
-placed-byte k i n m2 m1 c0 p1 p2 p3 h2 h1 g0 g1 g2 g3 = cond-byte (leb n (i + 1)) _ _ g0 (cond-byte (ltb i (leadOf k) || leb n (i + rearOf k)) _ _ (mean-byte c0 p1 g0 g1) (half-byte k m2 m1 c0 p1 p2 p3 h2 h1 g0 g1 g2 g3))
+placed-byte k i n m2 m1 c0 p1 p2 p3 h2 h1 g0 g1 g2 g3 = cond-byte (leb n (i + 1)) _ _ g0 (cond-byte (ltb i (leadOf k) || leb n (i + tailOf k)) _ _ (mean-byte c0 p1 g0 g1) (half-byte k m2 m1 c0 p1 p2 p3 h2 h1 g0 g1 g2 g3))
 
 around-byte : (k : Six) (r : List ℕ) (i : ℕ) → ByteRule k → Bytes r → around k r i < 256
 around-byte k r i rule b = rule _ _ _ _ _ _ (b (i - 2)) (b (i - 1)) (b i) (b (i + 1)) (b (i + 2)) (b (i + 3))

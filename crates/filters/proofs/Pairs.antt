@@ -10,7 +10,7 @@ use borrow.Author.Tests.{ne-eqb, le-leb, lt-leb}
 use Rattle.filters.specs.declared.halving.ReduceFilter.{ReduceFilter}
 use Rattle.filters.specs.declared.halving.ReduceFilter.the-variants.{Average, Bilinear, Quadratic, Cubic}
 use Rattle.filters.specs.Row.{Widened, meanOf, around}
-use Rattle.filters.specs.Halve.{endsOf, isEdge, weigh, headed, horizontalAt}
+use Rattle.filters.specs.Halve.{lastIsMean, isEdge, weigh, headed, horizontalAt}
 
 headed-first : (v : List ℕ) → 0 < length v → meanOf (getD v 0 0) (getD v 1 0) ≡ getD (headed v) 0 0
 unfolding headed
@@ -29,10 +29,10 @@ and-true true = refl
 and-true false = refl
 
 no-edge : (f : ReduceFilter) (i n : ℕ) → 0 < i → i + 1 < n → isEdge f i n ≡ false
-no-edge f i n more lt = rw (ne-eqb i 0 (λ e. omega arith), lt-leb n (i + 1) lt) (and-false (endsOf f))
+no-edge f i n more lt = rw (ne-eqb i 0 (λ e. omega arith), lt-leb n (i + 1) lt) (and-false (lastIsMean f))
 
-edge-last : (f : ReduceFilter) (i n : ℕ) → 0 < i → i + 1 ≡ n → isEdge f i n ≡ endsOf f
-edge-last f i n more e = rw (ne-eqb i 0 (λ z. omega arith), le-leb n (i + 1) (omega arith)) (and-true (endsOf f))
+edge-last : (f : ReduceFilter) (i n : ℕ) → 0 < i → i + 1 ≡ n → isEdge f i n ≡ lastIsMean f
+edge-last f i n more e = rw (ne-eqb i 0 (λ z. omega arith), le-leb n (i + 1) (omega arith)) (and-true (lastIsMean f))
 
 pub first-output : (f : ReduceFilter) (n : ℕ) (v : List ℕ) → meanOf (getD v 0 0) (getD v 1 0) ≡ horizontalAt f n v 0
 unfolding horizontalAt
@@ -97,12 +97,12 @@ module _ {v : List ℕ} {i e0 o0 e1 o1 : ℕ} (w : Window v i e0 o0 e1 o1) where
   last-mean : 0 < i → meanOf e1 o1 ≡ meanOf (getD v (2 * i) 0) (getD v (2 * i + 1) 0)
   last-mean more = rw (headed-later v (2 * i) (omega arith), headed-later v (2 * i + 1) (omega arith), w .at2, w .at3)
 
-  last-by : (f : ReduceFilter) → 0 < i → cond (endsOf f) (meanOf e1 o1) (weigh f 0 o0 e1 o1 0 0) ≡ cond (endsOf f) (meanOf (getD v (2 * i) 0) (getD v (2 * i + 1) 0)) (around (weigh f) (headed v) (2 * i))
+  last-by : (f : ReduceFilter) → 0 < i → cond (lastIsMean f) (meanOf e1 o1) (weigh f 0 o0 e1 o1 0 0) ≡ cond (lastIsMean f) (meanOf (getD v (2 * i) 0) (getD v (2 * i + 1) 0)) (around (weigh f) (headed v) (2 * i))
   last-by Average more = rw (w .at1, w .at2, w .at3)
   last-by Bilinear more = last-mean more
   last-by Quadratic more = last-mean more
   last-by Cubic more = last-mean more
 
-  pub last-output : (f : ReduceFilter) (n : ℕ) → 0 < i → i + 1 ≡ n → cond (endsOf f) (meanOf e1 o1) (weigh f 0 o0 e1 o1 0 0) ≡ horizontalAt f n v i
+  pub last-output : (f : ReduceFilter) (n : ℕ) → 0 < i → i + 1 ≡ n → cond (lastIsMean f) (meanOf e1 o1) (weigh f 0 o0 e1 o1 0 0) ≡ horizontalAt f n v i
   unfolding horizontalAt
   last-output f n more e = last-by f more ∙ ap (λ (t : Bool). cond t (meanOf (getD v (2 * i) 0) (getD v (2 * i + 1) 0)) (around (weigh f) (headed v) (2 * i))) (sym (edge-last f i n more e))

@@ -12,8 +12,8 @@ use lib.Seq.{getD-drop, length-take-le}
 use borrow.Author.Tests.{lt-ltb, le-ltb, le-leb, lt-leb}
 use Rattle.filters.specs.declared.half_pel.HalfPel.{HalfPel}
 use Rattle.filters.specs.declared.half_pel.HalfPel.the-variants.{CatmullRom, Wiener}
-use Rattle.filters.specs.Row.{tab, meanOf, meansOf, sixAt, sixes, around}
-use Rattle.filters.specs.Refine.{leadOf, rearOf, halfPel, placed, nextAt, nextMeans, halfHorizontal, halfVertical}
+use Rattle.filters.specs.Row.{Reach, tab, meanOf, meansOf, sixAt, sixes, around}
+use Rattle.filters.specs.Refine.{leadOf, tailOf, halfPel, placed, nextAt, nextMeans, halfHorizontal, halfVertical}
 use Rattle.filters.proofs.Integers.{below-or}
 use Rattle.filters.proofs.Filling.{Filled, filled-more, filled-whole}
 use Rattle.filters.proofs.Tables.{tab-at, tab-length, tab-ext, take-tab, back-tab}
@@ -22,10 +22,10 @@ module _ (k : HalfPel) (i n m2 m1 c0 p1 p2 p3 : ℕ) where
   placed-copy : n ≤ i + 1 → c0 ≡ placed k i n m2 m1 c0 p1 p2 p3
   placed-copy le = rw (le-leb n (i + 1) le)
 
-  placed-mean : i + 1 < n → (ltb i (leadOf k) || leb n (i + rearOf k)) ≡ true → meanOf c0 p1 ≡ placed k i n m2 m1 c0 p1 p2 p3
+  placed-mean : i + 1 < n → (ltb i (leadOf k) || leb n (i + tailOf k)) ≡ true → meanOf c0 p1 ≡ placed k i n m2 m1 c0 p1 p2 p3
   placed-mean lt e = rw (lt-leb n (i + 1) lt, e)
 
-  placed-kernel : i + 1 < n → (ltb i (leadOf k) || leb n (i + rearOf k)) ≡ false → halfPel k m2 m1 c0 p1 p2 p3 ≡ placed k i n m2 m1 c0 p1 p2 p3
+  placed-kernel : i + 1 < n → (ltb i (leadOf k) || leb n (i + tailOf k)) ≡ false → halfPel k m2 m1 c0 p1 p2 p3 ≡ placed k i n m2 m1 c0 p1 p2 p3
   placed-kernel lt e = rw (lt-leb n (i + 1) lt, e)
 
 -- ---- down the rows
@@ -42,18 +42,18 @@ module _ (k : HalfPel) (y h n : ℕ) (m2 m1 c0 p1 p2 p3 : List ℕ) where
   unfolding halfVertical sixes
   vertical-copy le long = take-tab n c0 long ∙ tab-ext (λ i. getD c0 i 0) (sixAt (placed k y h) m2 m1 c0 p1 p2 p3) n (λ i lt. placed-copy k y h _ _ (getD c0 i 0) _ _ _ le)
 
-  pub vertical-mean : y + 1 < h → (ltb y (leadOf k) || leb h (y + rearOf k)) ≡ true → meansOf n c0 p1 ≡ halfVertical k y h n m2 m1 c0 p1 p2 p3
+  pub vertical-mean : y + 1 < h → (ltb y (leadOf k) || leb h (y + tailOf k)) ≡ true → meansOf n c0 p1 ≡ halfVertical k y h n m2 m1 c0 p1 p2 p3
   unfolding halfVertical sixes meansOf
   vertical-mean lt e = tab-ext (λ i. meanOf (getD c0 i 0) (getD p1 i 0)) (sixAt (placed k y h) m2 m1 c0 p1 p2 p3) n (λ i h. placed-mean k y _ _ _ _ _ _ _ lt e)
 
-  pub vertical-kernel : y + 1 < h → (ltb y (leadOf k) || leb h (y + rearOf k)) ≡ false → sixes (halfPel k) n m2 m1 c0 p1 p2 p3 ≡ halfVertical k y h n m2 m1 c0 p1 p2 p3
+  pub vertical-kernel : y + 1 < h → (ltb y (leadOf k) || leb h (y + tailOf k)) ≡ false → sixes (halfPel k) n m2 m1 c0 p1 p2 p3 ≡ halfVertical k y h n m2 m1 c0 p1 p2 p3
   unfolding halfVertical sixes
   vertical-kernel lt e = tab-ext (sixAt (halfPel k) m2 m1 c0 p1 p2 p3) (sixAt (placed k y h) m2 m1 c0 p1 p2 p3) n (λ i h. placed-kernel k y _ _ _ _ _ _ _ lt e)
 
 -- ---- along a row
-rear-some : (k : HalfPel) → 1 < rearOf k
-rear-some CatmullRom = omega arith
-rear-some Wiener = omega arith
+tail-some : (k : HalfPel) → 1 < tailOf k
+tail-some CatmullRom = omega arith
+tail-some Wiener = omega arith
 
 or-true : (t : Bool) → (t || true) ≡ true
 or-true true = refl
@@ -88,28 +88,28 @@ next-made n o r t m long some next means =
     filled-whole (filled-more filled (omega arith) (next-last n r (n - 1) (omega arith))) (omega arith)
 
 module _ (k : HalfPel) (n : ℕ) (r : List ℕ) where
-  by-edges : (i : ℕ) → (ltb i (leadOf k) || leb n (i + rearOf k)) ≡ true → nextAt n r i ≡ around (placed k i n) r i
+  by-edges : (i : ℕ) → (ltb i (leadOf k) || leb n (i + tailOf k)) ≡ true → nextAt n r i ≡ around (placed k i n) r i
   by-edges i e =
       ⊎-elim
       (λ (lt : i + 1 < n). sym (next-inner n r i lt) ∙ placed-mean k i n _ _ _ _ _ _ lt e)
       (λ (le : n ≤ i + 1). sym (next-last n r i le) ∙ placed-copy k i n _ _ _ _ _ _ le)
       (below-or (i + 1) n)
 
-  at-front : (i : ℕ) → i < leadOf k → (ltb i (leadOf k) || leb n (i + rearOf k)) ≡ true
+  at-front : (i : ℕ) → i < leadOf k → (ltb i (leadOf k) || leb n (i + tailOf k)) ≡ true
   at-front i lt = rw (lt-ltb i (leadOf k) lt)
 
-  at-rear : (i : ℕ) → n ≤ i + rearOf k → (ltb i (leadOf k) || leb n (i + rearOf k)) ≡ true
-  at-rear i le = rw (le-leb n (i + rearOf k) le) (or-true (ltb i (leadOf k)))
+  at-tail : (i : ℕ) → n ≤ i + tailOf k → (ltb i (leadOf k) || leb n (i + tailOf k)) ≡ true
+  at-tail i le = rw (le-leb n (i + tailOf k) le) (or-true (ltb i (leadOf k)))
 
-  between : (i : ℕ) → leadOf k ≤ i → i + rearOf k < n → (ltb i (leadOf k) || leb n (i + rearOf k)) ≡ false
-  between i le lt = rw (le-ltb i (leadOf k) le, lt-leb n (i + rearOf k) lt)
+  between : (i : ℕ) → leadOf k ≤ i → i + tailOf k < n → (ltb i (leadOf k) || leb n (i + tailOf k)) ≡ false
+  between i le lt = rw (le-ltb i (leadOf k) le, lt-leb n (i + tailOf k) lt)
 
   -- a row too short for the kernel
-  pub short-row : n ≤ leadOf k + rearOf k → nextMeans n r ≡ halfHorizontal k n r
+  pub short-row : n ≤ leadOf k + tailOf k → nextMeans n r ≡ halfHorizontal k n r
   unfolding nextMeans halfHorizontal
   short-row few =
       tab-ext (nextAt n r) (λ i. around (placed k i n) r i) n
-      (λ i lt. by-edges i (⊎-elim (λ (l : i < leadOf k). at-front i l) (λ (g : leadOf k ≤ i). at-rear i (omega arith)) (below-or i (leadOf k))))
+      (λ i lt. by-edges i (⊎-elim (λ (l : i < leadOf k). at-front i l) (λ (g : leadOf k ≤ i). at-tail i (omega arith)) (below-or i (leadOf k))))
 
 -- the taps of the place leadOf k + j, as parts of the row give them
 taps : (k : HalfPel) (r : List ℕ) (j : ℕ) → halfPel k (getD r j 0) (getD r (leadOf k - 1 + j) 0) (getD r (leadOf k + j) 0) (getD r (leadOf k + 1 + j) 0) (getD r (leadOf k + 2 + j) 0) (getD r (leadOf k + 3 + j) 0) ≡ around (halfPel k) r (leadOf k + j)
@@ -126,37 +126,49 @@ taps Wiener r j =
     let e5 : 2 + 3 + j ≡ 2 + j + 3 = omega arith in
     cc
 
--- a part of the row reaches as far as the kernel's places
-pub part-fits : (o r x : List ℕ) (n z a t : ℕ) → n ≤ length r → 3 ≤ z → a + z < n → t ≤ a + 3 → x ≡ drop t r → length (take (n - z - a) (drop a o)) ≤ length x
-part-fits o r x n z a t room rear many near e = rw (e, length-take (n - z - a) (drop a o), length-drop t r) (le-trans (min-le-left (n - z - a) (length (drop a o))) (omega arith))
+-- parts of the row r, from the taps of place a on
+pub record Parts (a : ℕ) (r m1 c0 p1 p2 p3 : List ℕ) : Type 0 where
+  pub at1 : m1 ≡ drop (a - 1) r
+  pub at2 : c0 ≡ drop a r
+  pub at3 : p1 ≡ drop (a + 1) r
+  pub at4 : p2 ≡ drop (a + 2) r
+  pub at5 : p3 ≡ drop (a + 3) r
 
--- parts of the row from the taps of its first kernel place on
-pub record Parts (k : HalfPel) (r m1 c0 p1 p2 p3 : List ℕ) : Type 0 where
-  pub at1 : m1 ≡ drop (leadOf k - 1) r
-  pub at2 : c0 ≡ drop (leadOf k) r
-  pub at3 : p1 ≡ drop (leadOf k + 1) r
-  pub at4 : p2 ≡ drop (leadOf k + 2) r
-  pub at5 : p3 ≡ drop (leadOf k + 3) r
+-- they reach as far as the places from a to n - z
+module _ (o r : List ℕ) (n z a : ℕ) (room : n ≤ length r) (some : 3 ≤ z) (many : a + z < n) where
+  part-fits : (x : List ℕ) (t : ℕ) → t ≤ a + 3 → x ≡ drop t r → length (take (n - z - a) (drop a o)) ≤ length x
+  part-fits x t near e = rw (e, length-take (n - z - a) (drop a o), length-drop t r) (le-trans (min-le-left (n - z - a) (length (drop a o))) (omega arith))
 
-module _ (k : HalfPel) (n : ℕ) (r m1 c0 p1 p2 p3 : List ℕ) (parts : Parts k r m1 c0 p1 p2 p3) (many : leadOf k + rearOf k < n) where
+  pub parts-reach : {m1 c0 p1 p2 p3 : List ℕ} → Parts a r m1 c0 p1 p2 p3 → Reach (length (take (n - z - a) (drop a o))) r m1 c0 p1 p2 p3
+  parts-reach {m1} {c0} {p1} {p2} {p3} parts =
+      record {
+        in-m2 = part-fits r 0 (omega arith) refl;
+        in-m1 = part-fits m1 (a - 1) (omega arith) (parts .at1);
+        in-c0 = part-fits c0 a (omega arith) (parts .at2);
+        in-p1 = part-fits p1 (a + 1) (omega arith) (parts .at3);
+        in-p2 = part-fits p2 (a + 2) (omega arith) (parts .at4);
+        in-p3 = part-fits p3 (a + 3) (omega arith) (parts .at5);
+      }
+
+module _ (k : HalfPel) (n : ℕ) (r : List ℕ) {m1 c0 p1 p2 p3 : List ℕ} (parts : Parts (leadOf k) r m1 c0 p1 p2 p3) (many : leadOf k + tailOf k < n) where
   part-taps : (j : ℕ) → sixAt (halfPel k) r m1 c0 p1 p2 p3 j ≡ around (halfPel k) r (leadOf k + j)
   part-taps j =
       rw (parts .at1, parts .at2, parts .at3, parts .at4, parts .at5)
       (rw (getD-drop (leadOf k - 1) r j 0, getD-drop (leadOf k) r j 0, getD-drop (leadOf k + 1) r j 0, getD-drop (leadOf k + 2) r j 0, getD-drop (leadOf k + 3) r j 0) (taps k r j))
 
   -- the edges' row with the kernel's places written over
-  pub long-row : (o s : List ℕ) → o ≡ nextMeans n r → s ≡ sixes (halfPel k) (length (take (n - rearOf k - leadOf k) (drop (leadOf k) o))) r m1 c0 p1 p2 p3 → take (leadOf k) o ++ (s ++ drop (n - rearOf k - leadOf k) (drop (leadOf k) o)) ≡ halfHorizontal k n r
+  pub long-row : (o s : List ℕ) → o ≡ nextMeans n r → s ≡ sixes (halfPel k) (length (take (n - tailOf k - leadOf k) (drop (leadOf k) o))) r m1 c0 p1 p2 p3 → take (leadOf k) o ++ (s ++ drop (n - tailOf k - leadOf k) (drop (leadOf k) o)) ≡ halfHorizontal k n r
   unfolding halfHorizontal nextMeans sixes
   long-row o s edges kernel =
       let f : ℕ → ℕ = λ i. around (placed k i n) r i in
       let inner : ℕ → ℕ = sixAt (halfPel k) r m1 c0 p1 p2 p3 in
       let a = leadOf k in
-      let e = n - rearOf k in
+      let e = n - tailOf k in
       let ol : length o ≡ n = ap length edges ∙ tab-length (nextAt n r) n in
       let sl : length (take (e - a) (drop a o)) ≡ e - a = length-take-le (e - a) (drop a o) (omega (arith, length-drop a o)) in
       let is : s ≡ tab inner (e - a) = kernel ∙ ap (tab inner) sl in
-      let edge : (i : ℕ) → i < n → (ltb i (leadOf k) || leb n (i + rearOf k)) ≡ true → getD o i 0 ≡ f i = λ i lt t. ap (λ (l : List ℕ). getD l i 0) edges ∙ tab-at (nextAt n r) n i lt ∙ by-edges k n r i t in
+      let edge : (i : ℕ) → i < n → (ltb i (leadOf k) || leb n (i + tailOf k)) ≡ true → getD o i 0 ≡ f i = λ i lt t. ap (λ (l : List ℕ). getD l i 0) edges ∙ tab-at (nextAt n r) n i lt ∙ by-edges k n r i t in
       back-tab o s a e (omega arith) (omega arith) (ap length is ∙ tab-length inner (e - a)) f n ol
       (λ i lt. edge i (omega arith) (at-front k n r i lt))
-      (λ j lt. ap (λ (l : List ℕ). getD l j 0) is ∙ tab-at inner (e - a) j lt ∙ part-taps j ∙ placed-kernel k (a + j) n _ _ _ _ _ _ (omega (arith, rear-some k)) (between k n r (a + j) (omega arith) (omega arith)))
-      (λ i le lt. edge i lt (at-rear k n r i (omega arith)))
+      (λ j lt. ap (λ (l : List ℕ). getD l j 0) is ∙ tab-at inner (e - a) j lt ∙ part-taps j ∙ placed-kernel k (a + j) n _ _ _ _ _ _ (omega (arith, tail-some k)) (between k n r (a + j) (omega arith) (omega arith)))
+      (λ i le lt. edge i lt (at-tail k n r i (omega arith)))

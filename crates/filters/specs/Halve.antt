@@ -28,29 +28,29 @@ weigh Bilinear m2 m1 c0 p1 p2 p3 = (m1 + 3 * (c0 + p1) + p2 + 4) / 8
 weigh Quadratic m2 m1 c0 p1 p2 p3 = (m2 + 9 * (m1 + p2) + 22 * (c0 + p1) + p3 + 32) / 64
 weigh Cubic m2 m1 c0 p1 p2 p3 = (m2 + 5 * (m1 + p2) + 10 * (c0 + p1) + p3 + 16) / 32
 
--- the first of the rows that those read, counted up from row 0, and the last
-abbrev pub aboveOf : ReduceFilter → ℕ
-aboveOf Average = 1
-aboveOf Bilinear = 1
-aboveOf Quadratic = 2
-aboveOf Cubic = 2
+-- the first row that those read, counted up from the source row, and the last, counted down
+abbrev pub firstRow : ReduceFilter → ℕ
+firstRow Average = 1
+firstRow Bilinear = 1
+firstRow Quadratic = 2
+firstRow Cubic = 2
 
-abbrev pub belowOf : ReduceFilter → ℕ
-belowOf Average = 1
-belowOf Bilinear = 2
-belowOf Quadratic = 3
-belowOf Cubic = 3
+abbrev pub lastRow : ReduceFilter → ℕ
+lastRow Average = 1
+lastRow Bilinear = 2
+lastRow Quadratic = 3
+lastRow Cubic = 3
 
 -- "for all but average the last row"; "For all but average, the last"
-abbrev pub endsOf : ReduceFilter → Bool
-endsOf Average = false
-endsOf Bilinear = true
-endsOf Quadratic = true
-endsOf Cubic = true
+abbrev pub lastIsMean : ReduceFilter → Bool
+lastIsMean Average = false
+lastIsMean Bilinear = true
+lastIsMean Quadratic = true
+lastIsMean Cubic = true
 
 -- place i of n is a mean: "row 0, and for all but average the last row"; "output 0 .. For all but average, the last"
 abbrev pub isEdge : ReduceFilter → ℕ → ℕ → Bool
-isEdge f i n = eqb i 0 || (endsOf f && leb n (i + 1))
+isEdge f i n = eqb i 0 || (lastIsMean f && leb n (i + 1))
 
 -- "On the other columns of such rows it is (a + 5 r(-1) + 10(r(0) + r(1)) + 5b + c + 16) >> 5"
 abbrev pub restOf : Six

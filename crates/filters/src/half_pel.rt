@@ -3,13 +3,19 @@ use crate::rows::mean_row;
 ghost use mathlib.Core.Path.{_≡_};
 ghost use Prim.Native.Nat.{_+_, _*_, _-_, _/_, _≤_, _<_, min};
 ghost use lib.ListN.{length, drop};
-ghost use Rattle.filters.specs.Row.{sixes};
-ghost use Rattle.filters.specs.Refine.{leadOf, rearOf, halfPel, nextMeans, halfHorizontal, halfVertical};
+ghost use Rattle.filters.specs.Row.{Reach, sixes};
+ghost use Rattle.filters.specs.Refine.{upscale, leadOf, tailOf, halfPel, nextMeans, halfHorizontal, halfVertical};
 
 // Document 01's bicubic and Wiener.
 pub enum HalfPel {
     CatmullRom,
     Wiener,
+}
+
+// What an up setting names: means of neighbours (document 01's bilinear), or a kernel.
+pub enum Upscale {
+    Means,
+    Kernel(HalfPel),
 }
 
 // A kernel's constants: how many of the first places are means, from which place before the end on they are again (the copied place counted), and the rounding term.
@@ -20,12 +26,12 @@ pub struct Wiener;
 impl CatmullRom {
     pub const LEAD: usize = 1;
 
-    pub const REAR: usize = 3;
+    pub const TAIL: usize = 3;
 
     pub const ROUND: u16 = 8;
 
     fn apply(m1: u8, c0: u8, p1: u8, p2: u8) -> u8
-        ensures { λ r. ⌜ r ≡ min 255 ((9 * (c0 + p1) + 8 - (m1 + p2)) / 16) ⌝ }
+        ensures { λ r. ⌜ r ≡ halfPel HalfPel.CatmullRom 0 m1 c0 p1 p2 0 ⌝ }
     {
         let up = 9 * ((c0 as u16) + (p1 as u16)) + CatmullRom::ROUND;
         let down = (m1 as u16) + (p2 as u16);
@@ -36,12 +42,12 @@ impl CatmullRom {
 impl Wiener {
     pub const LEAD: usize = 2;
 
-    pub const REAR: usize = 4;
+    pub const TAIL: usize = 4;
 
     pub const ROUND: u16 = 16;
 
     fn apply(m2: u8, m1: u8, c0: u8, p1: u8, p2: u8, p3: u8) -> u8
-        ensures { λ r. ⌜ r ≡ min 255 ((m2 + 20 * (c0 + p1) + p3 + 16 - 5 * (m1 + p2)) / 32) ⌝ }
+        ensures { λ r. ⌜ r ≡ halfPel HalfPel.Wiener m2 m1 c0 p1 p2 p3 ⌝ }
     {
         let up = (m2 as u16) + 20 * ((c0 as u16) + (p1 as u16)) + (p3 as u16) + Wiener::ROUND;
         let down = 5 * ((m1 as u16) + (p2 as u16));
@@ -69,6 +75,16 @@ fn held(v: u16) -> u8
 }
 
 impl HalfPel {
+    pub fn from_option(value: i32) -> Upscale
+        ensures { λ r. ⌜ r ≡ upscale value ⌝ }
+    {
+        match value {
+            0 => Upscale::Means,
+            1 => Upscale::Kernel(HalfPel::CatmullRom),
+            _ => Upscale::Kernel(HalfPel::Wiener),
+        }
+    }
+
     fn lead(self) -> usize
         ensures { λ r. ⌜ (r ≡ leadOf self) × (1 ≤ r) × (r ≤ 2) ⌝ }
     {
@@ -78,12 +94,12 @@ impl HalfPel {
         }
     }
 
-    fn rear(self) -> usize
-        ensures { λ r. ⌜ (r ≡ rearOf self) × (3 ≤ r) × (r ≤ 4) ⌝ }
+    fn tail(self) -> usize
+        ensures { λ r. ⌜ (r ≡ tailOf self) × (3 ≤ r) × (r ≤ 4) ⌝ }
     {
         match self {
-            HalfPel::CatmullRom => CatmullRom::REAR,
-            HalfPel::Wiener => Wiener::REAR,
+            HalfPel::CatmullRom => CatmullRom::TAIL,
+            HalfPel::Wiener => Wiener::TAIL,
         }
     }
 
@@ -107,7 +123,7 @@ impl HalfPel {
         p2: &[u8],
         p3: &[u8],
     )
-        requires { ⌜ (length (now out) ≤ length (now m2)) × (length (now out) ≤ length (now m1)) × (length (now out) ≤ length (now c0)) × (length (now out) ≤ length (now p1)) × (length (now out) ≤ length (now p2)) × (length (now out) ≤ length (now p3)) ⌝ }
+        requires { ⌜ Reach (length (now out)) (now m2) (now m1) (now c0) (now p1) (now p2) (now p3) ⌝ }
         ensures { λ r. ⌜ now (out .exit) ≡ sixes (halfPel self) (length (now (out .entry))) (now (m2 .entry)) (now (m1 .entry)) (now (c0 .entry)) (now (p1 .entry)) (now (p2 .entry)) (now (p3 .entry)) ⌝ }
     {
         let n = out.len();
@@ -129,7 +145,7 @@ impl HalfPel {
         p2: &[u8],
         p3: &[u8],
     )
-        requires { ⌜ (y < h) × (length (now out) ≤ length (now m2)) × (length (now out) ≤ length (now m1)) × (length (now out) ≤ length (now c0)) × (length (now out) ≤ length (now p1)) × (length (now out) ≤ length (now p2)) × (length (now out) ≤ length (now p3)) ⌝ }
+        requires { ⌜ (y < h) × (Reach (length (now out)) (now m2) (now m1) (now c0) (now p1) (now p2) (now p3)) ⌝ }
         ensures { λ r. ⌜ now (out .exit) ≡ halfVertical self y h (length (now (out .entry))) (now (m2 .entry)) (now (m1 .entry)) (now (c0 .entry)) (now (p1 .entry)) (now (p2 .entry)) (now (p3 .entry)) ⌝ }
     {
         let left = h - y;
@@ -137,7 +153,7 @@ impl HalfPel {
             copy_row(out, c0);
             return;
         }
-        if (y < self.lead()) | (left <= self.rear()) {
+        if (y < self.lead()) | (left <= self.tail()) {
             mean_row(out, c0, p1);
             return;
         }
@@ -152,11 +168,11 @@ impl HalfPel {
         let n = out.len();
         mean_with_next(out, row);
         let lead = self.lead();
-        let rear = self.rear();
-        if n <= lead + rear {
+        let tail = self.tail();
+        if n <= lead + tail {
             return;
         }
-        let end = n - rear;
+        let end = n - tail;
         // A kernel that reads m2 starts at place 2, so that its m2 starts with the row.
         self.apply_half_pel(
             &mut out[lead..end],

@@ -3,8 +3,8 @@ ghost use mathlib.Core.Path.{_≡_};
 ghost use mathlib.Core.Bool.{cond};
 ghost use Prim.Native.Nat.{_+_, _*_, _/_, _≤_, _<_};
 ghost use lib.ListN.{length};
-ghost use Rattle.filters.specs.Row.{Widened, meanOf, sixes};
-ghost use Rattle.filters.specs.Halve.{chosen, aboveOf, belowOf, endsOf, isEdge, weigh, restOf, horizontalRow};
+ghost use Rattle.filters.specs.Row.{Widened, Low, Reach, meanOf, sixes};
+ghost use Rattle.filters.specs.Halve.{chosen, firstRow, lastRow, lastIsMean, isEdge, weigh, restOf, horizontalRow};
 
 pub enum ReduceFilter {
     Average,
@@ -19,7 +19,7 @@ pub enum Chosen {
     NoFilter,
 }
 
-// A filter's constants: the rows that it reads above and below the source row, whether the last output is a mean, and the rounding term.
+// A filter's constants: the first row that it reads, counted up from the source row, and the last, counted down; whether the last output is a mean; and the rounding term.
 pub struct Average;
 
 pub struct Bilinear;
@@ -29,68 +29,68 @@ pub struct Quadratic;
 pub struct Cubic;
 
 impl Average {
-    pub const ABOVE: usize = 1;
+    pub const FIRST_ROW: usize = 1;
 
-    pub const BELOW: usize = 1;
+    pub const LAST_ROW: usize = 1;
 
-    pub const ENDS: bool = false;
+    pub const LAST_IS_MEAN: bool = false;
 
     pub const ROUND: u16 = 2;
 
     fn weigh(m1: u16, c0: u16, p1: u16) -> u8
-        requires { ⌜ (m1 ≤ 255) × (c0 ≤ 255) × (p1 ≤ 255) ⌝ }
-        ensures { λ r. ⌜ r ≡ (m1 + 2 * c0 + p1 + 2) / 4 ⌝ }
+        requires { ⌜ Low 0 m1 c0 p1 0 0 ⌝ }
+        ensures { λ r. ⌜ r ≡ weigh ReduceFilter.Average 0 m1 c0 p1 0 0 ⌝ }
     {
         ((m1 + 2 * c0 + p1 + Average::ROUND) >> 2) as u8
     }
 }
 
 impl Bilinear {
-    pub const ABOVE: usize = 1;
+    pub const FIRST_ROW: usize = 1;
 
-    pub const BELOW: usize = 2;
+    pub const LAST_ROW: usize = 2;
 
-    pub const ENDS: bool = true;
+    pub const LAST_IS_MEAN: bool = true;
 
     pub const ROUND: u16 = 4;
 
     fn weigh(m1: u16, c0: u16, p1: u16, p2: u16) -> u8
-        requires { ⌜ (m1 ≤ 255) × (c0 ≤ 255) × (p1 ≤ 255) × (p2 ≤ 255) ⌝ }
-        ensures { λ r. ⌜ r ≡ (m1 + 3 * (c0 + p1) + p2 + 4) / 8 ⌝ }
+        requires { ⌜ Low 0 m1 c0 p1 p2 0 ⌝ }
+        ensures { λ r. ⌜ r ≡ weigh ReduceFilter.Bilinear 0 m1 c0 p1 p2 0 ⌝ }
     {
         ((m1 + 3 * (c0 + p1) + p2 + Bilinear::ROUND) >> 3) as u8
     }
 }
 
 impl Quadratic {
-    pub const ABOVE: usize = 2;
+    pub const FIRST_ROW: usize = 2;
 
-    pub const BELOW: usize = 3;
+    pub const LAST_ROW: usize = 3;
 
-    pub const ENDS: bool = true;
+    pub const LAST_IS_MEAN: bool = true;
 
     pub const ROUND: u16 = 32;
 
     fn weigh(m2: u16, m1: u16, c0: u16, p1: u16, p2: u16, p3: u16) -> u8
-        requires { ⌜ (m2 ≤ 255) × (m1 ≤ 255) × (c0 ≤ 255) × (p1 ≤ 255) × (p2 ≤ 255) × (p3 ≤ 255) ⌝ }
-        ensures { λ r. ⌜ r ≡ (m2 + 9 * (m1 + p2) + 22 * (c0 + p1) + p3 + 32) / 64 ⌝ }
+        requires { ⌜ Low m2 m1 c0 p1 p2 p3 ⌝ }
+        ensures { λ r. ⌜ r ≡ weigh ReduceFilter.Quadratic m2 m1 c0 p1 p2 p3 ⌝ }
     {
         ((m2 + 9 * (m1 + p2) + 22 * (c0 + p1) + p3 + Quadratic::ROUND) >> 6) as u8
     }
 }
 
 impl Cubic {
-    pub const ABOVE: usize = 2;
+    pub const FIRST_ROW: usize = 2;
 
-    pub const BELOW: usize = 3;
+    pub const LAST_ROW: usize = 3;
 
-    pub const ENDS: bool = true;
+    pub const LAST_IS_MEAN: bool = true;
 
     pub const ROUND: u16 = 16;
 
     fn weigh(m2: u16, m1: u16, c0: u16, p1: u16, p2: u16, p3: u16) -> u8
-        requires { ⌜ (m2 ≤ 255) × (m1 ≤ 255) × (c0 ≤ 255) × (p1 ≤ 255) × (p2 ≤ 255) × (p3 ≤ 255) ⌝ }
-        ensures { λ r. ⌜ r ≡ (m2 + 5 * (m1 + p2) + 10 * (c0 + p1) + p3 + 16) / 32 ⌝ }
+        requires { ⌜ Low m2 m1 c0 p1 p2 p3 ⌝ }
+        ensures { λ r. ⌜ r ≡ weigh ReduceFilter.Cubic m2 m1 c0 p1 p2 p3 ⌝ }
     {
         ((m2 + 5 * (m1 + p2) + 10 * (c0 + p1) + p3 + Cubic::ROUND) >> 5) as u8
     }
@@ -116,39 +116,39 @@ impl ReduceFilter {
         }
     }
 
-    // How many rows above the source row it reads.
-    pub fn above(self) -> usize
-        ensures { λ r. ⌜ r ≡ aboveOf self ⌝ }
+    // The first row that it reads, counted up from the source row.
+    pub fn first_row(self) -> usize
+        ensures { λ r. ⌜ r ≡ firstRow self ⌝ }
     {
         match self {
-            ReduceFilter::Average => Average::ABOVE,
-            ReduceFilter::Bilinear => Bilinear::ABOVE,
-            ReduceFilter::Quadratic => Quadratic::ABOVE,
-            ReduceFilter::Cubic => Cubic::ABOVE,
+            ReduceFilter::Average => Average::FIRST_ROW,
+            ReduceFilter::Bilinear => Bilinear::FIRST_ROW,
+            ReduceFilter::Quadratic => Quadratic::FIRST_ROW,
+            ReduceFilter::Cubic => Cubic::FIRST_ROW,
         }
     }
 
-    // How many rows below the source row it reads.
-    pub fn below(self) -> usize
-        ensures { λ r. ⌜ r ≡ belowOf self ⌝ }
+    // The last row that it reads, counted down from the source row.
+    pub fn last_row(self) -> usize
+        ensures { λ r. ⌜ r ≡ lastRow self ⌝ }
     {
         match self {
-            ReduceFilter::Average => Average::BELOW,
-            ReduceFilter::Bilinear => Bilinear::BELOW,
-            ReduceFilter::Quadratic => Quadratic::BELOW,
-            ReduceFilter::Cubic => Cubic::BELOW,
+            ReduceFilter::Average => Average::LAST_ROW,
+            ReduceFilter::Bilinear => Bilinear::LAST_ROW,
+            ReduceFilter::Quadratic => Quadratic::LAST_ROW,
+            ReduceFilter::Cubic => Cubic::LAST_ROW,
         }
     }
 
     // Whether the last output is a mean.
-    fn ends(self) -> bool
-        ensures { λ r. ⌜ r ≡ endsOf self ⌝ }
+    fn last_is_mean(self) -> bool
+        ensures { λ r. ⌜ r ≡ lastIsMean self ⌝ }
     {
         match self {
-            ReduceFilter::Average => Average::ENDS,
-            ReduceFilter::Bilinear => Bilinear::ENDS,
-            ReduceFilter::Quadratic => Quadratic::ENDS,
-            ReduceFilter::Cubic => Cubic::ENDS,
+            ReduceFilter::Average => Average::LAST_IS_MEAN,
+            ReduceFilter::Bilinear => Bilinear::LAST_IS_MEAN,
+            ReduceFilter::Quadratic => Quadratic::LAST_IS_MEAN,
+            ReduceFilter::Cubic => Cubic::LAST_IS_MEAN,
         }
     }
 
@@ -157,11 +157,11 @@ impl ReduceFilter {
         requires { ⌜ y < height ⌝ }
         ensures { λ r. ⌜ r ≡ isEdge self y height ⌝ }
     {
-        (y == 0) | (self.ends() & (height <= y + 1))
+        (y == 0) | (self.last_is_mean() & (height <= y + 1))
     }
 
     fn weigh(self, m2: u16, m1: u16, c0: u16, p1: u16, p2: u16, p3: u16) -> u8
-        requires { ⌜ (m2 ≤ 255) × (m1 ≤ 255) × (c0 ≤ 255) × (p1 ≤ 255) × (p2 ≤ 255) × (p3 ≤ 255) ⌝ }
+        requires { ⌜ Low m2 m1 c0 p1 p2 p3 ⌝ }
         ensures { λ r. ⌜ r ≡ weigh self m2 m1 c0 p1 p2 p3 ⌝ }
     {
         match self {
@@ -196,7 +196,7 @@ impl ReduceFilter {
         p2: &[u8],
         p3: &[u8],
     )
-        requires { ⌜ (length (now out) ≤ length (now m2)) × (length (now out) ≤ length (now m1)) × (length (now out) ≤ length (now c0)) × (length (now out) ≤ length (now p1)) × (length (now out) ≤ length (now p2)) × (length (now out) ≤ length (now p3)) ⌝ }
+        requires { ⌜ Reach (length (now out)) (now m2) (now m1) (now c0) (now p1) (now p2) (now p3) ⌝ }
         ensures { λ r. ⌜ now (out .exit) ≡ sixes (weigh self) (length (now (out .entry))) (now (m2 .entry)) (now (m1 .entry)) (now (c0 .entry)) (now (p1 .entry)) (now (p2 .entry)) (now (p3 .entry)) ⌝ }
     {
         let n = out.len();
@@ -207,10 +207,10 @@ impl ReduceFilter {
 
     // The last output of a row, from the odd byte before its pair, and its pair.
     fn last_output(self, m1: u16, c0: u16, p1: u16) -> u8
-        requires { ⌜ (m1 ≤ 255) × (c0 ≤ 255) × (p1 ≤ 255) ⌝ }
-        ensures { λ r. ⌜ r ≡ cond (endsOf self) (meanOf c0 p1) (weigh self 0 m1 c0 p1 0 0) ⌝ }
+        requires { ⌜ Low 0 m1 c0 p1 0 0 ⌝ }
+        ensures { λ r. ⌜ r ≡ cond (lastIsMean self) (meanOf c0 p1) (weigh self 0 m1 c0 p1 0 0) ⌝ }
     {
-        if self.ends() {
+        if self.last_is_mean() {
             return ((c0 + p1 + 1) >> 1) as u8;
         }
         self.weigh(0, m1, c0, p1, 0, 0)
@@ -251,7 +251,7 @@ impl ReduceFilter {
 
 // The generic cubic's columns past the whole eights, of a target row that is no edge: a, b and c are the bytes at half pitches.
 pub fn cubic_rest(out: &mut [u8], a: &[u8], m1: &[u8], c0: &[u8], p1: &[u8], b: &[u8], c: &[u8])
-    requires { ⌜ (length (now out) ≤ length (now a)) × (length (now out) ≤ length (now m1)) × (length (now out) ≤ length (now c0)) × (length (now out) ≤ length (now p1)) × (length (now out) ≤ length (now b)) × (length (now out) ≤ length (now c)) ⌝ }
+    requires { ⌜ Reach (length (now out)) (now a) (now m1) (now c0) (now p1) (now b) (now c) ⌝ }
     ensures { λ r. ⌜ now (out .exit) ≡ sixes restOf (length (now (out .entry))) (now (a .entry)) (now (m1 .entry)) (now (c0 .entry)) (now (p1 .entry)) (now (b .entry)) (now (c .entry)) ⌝ }
 {
     ReduceFilter::Cubic.vertical_filter(out, a, m1, c0, p1, b, c);

@@ -1,13 +1,15 @@
 -- `HalfPel::horizontal` meets its contract. Assumes nothing.
-use mathlib.Core.Path.{refl, _∙_}
-use Prim.Native.Nat.{_≤_, _<_, _+_, _-_}
+use mathlib.Core.Path.{_∙_}
+use Prim.Native.Nat.{_-_}
 use native.Mathlib.Omega.{arith}
 use denote.Ref.{now}
 use lib.ListN.{length}
 use borrow.Author.Needs.{needs}
-use Rattle.filters.proofs.Places.{part-fits, short-row, long-row}
+use Rattle.filters.proofs.Places.{Parts, parts-reach, short-row, long-row}
 use Rattle.filters.proofs.half_pel.HalfPel.horizontal.Statement.{statement}
 use Rattle.filters.proofs.half_pel.HalfPel.horizontal.Tie as tie
+
+-- `HalfPel::horizontal` meets its contract. Assumes nothing.
 
 -- `HalfPel::horizontal` meets its contract. Assumes nothing.
 
@@ -17,8 +19,8 @@ mean-with-next-requires c κs = search needs
 lead-requires : tie.Need-lead-requires
 lead-requires c κs = search needs
 
-rear-requires : tie.Need-rear-requires
-rear-requires c κs = search needs
+tail-requires : tie.Need-tail-requires
+tail-requires c κs = search needs
 
 add-if1 : tie.Need-add-if1
 add-if1 c = search needs
@@ -27,7 +29,7 @@ same-length : tie.Need-same-length
 same-length c = search needs
 
 returns : tie.Need-returns
-returns c = let a = c .before .before .before .before .before .before .before .before .before .args in c .before .before .before .before .before .mean-with-next .ensures ∙ short-row (a .self) (length (now (a .out))) (now (a .row)) (omega (arith, c .before .rear .ensures, c .before .before .lead .ensures))
+returns c = let a = c .before .before .before .before .before .before .before .before .before .args in c .before .before .before .before .before .mean-with-next .ensures ∙ short-row (a .self) (length (now (a .out))) (now (a .row)) (omega (arith, c .before .tail .ensures, c .before .before .lead .ensures))
 
 sub-end : tie.Need-sub-end
 sub-end c = search needs
@@ -70,30 +72,17 @@ rest-requires-5 c κs = search needs
 
 apply-half-pel-requires : tie.Need-apply-half-pel-requires
 apply-half-pel-requires c κs = let a = c .before .before .before .before .before .before .before .before .before .before .before .before .before .before .before .args in
-    let lead = c .before .before .before .before .before .before .before .before .lead .result in
-    let fits = part-fits (c .before .before .before .before .before .before .before .before .before .before .before .mean-with-next .last .0) (now (a .row)) in
-    let n = length (now (a .out)) in
-    let z = c .before .before .before .before .before .before .before .rear .result in
-    let room : n ≤ length (now (a .row)) = omega arith in
-    let many : lead + z < n = omega arith in
-    let far = c .before .before .before .before .before .before .before .rear .ensures .1 in
-    (fits (now (a .row)) n z lead 0 room far many (omega arith) refl, fits (now (c .before .before .before .before .rest .result)) n z lead (lead - 1) room far many (omega arith) (c .before .before .before .before .rest .ensures), fits (now (c .before .before .before .rest2 .result)) n z lead lead room far many (omega arith) (c .before .before .before .rest2 .ensures), fits (now (c .before .before .rest3 .result)) n z lead (lead + 1) room far many (omega arith) (c .before .before .rest3 .ensures), fits (now (c .before .rest4 .result)) n z lead (lead + 2) room far many (omega arith) (c .before .rest4 .ensures), fits (now (c .rest5 .result)) n z lead (lead + 3) room far many (omega arith) (c .rest5 .ensures))
+    parts-reach (c .before .before .before .before .before .before .before .before .before .before .before .mean-with-next .last .0) (now (a .row)) (length (now (a .out))) (c .before .before .before .before .before .before .before .tail .result) (c .before .before .before .before .before .before .before .before .lead .result) (omega arith) (c .before .before .before .before .before .before .before .tail .ensures .1) (omega arith) (record { at1 = c .before .before .before .before .rest .ensures; at2 = c .before .before .before .rest2 .ensures; at3 = c .before .before .rest3 .ensures; at4 = c .before .rest4 .ensures; at5 = c .rest5 .ensures })
 
 same-length-2 : tie.Need-same-length-2
 same-length-2 c = search needs
 
 returns-2 : tie.Need-returns-2
 returns-2 c = let a = c .before .before .before .before .before .before .before .before .before .before .before .before .before .before .before .before .before .before .args in
-    let r = now (a .row) in
     let e = c .before .before .before .before .before .before .before .before .before .before .before .lead .ensures .0 in
-    let f = c .before .before .before .before .before .before .before .before .before .before .rear .ensures .0 in
-    let at1 = rw e at (c .before .before .before .before .before .before .before .rest .ensures) in
-    let at2 = rw e at (c .before .before .before .before .before .before .rest2 .ensures) in
-    let at3 = rw e at (c .before .before .before .before .before .rest3 .ensures) in
-    let at4 = rw e at (c .before .before .before .before .rest4 .ensures) in
-    let at5 = rw e at (c .before .before .before .rest5 .ensures) in
-    rw (e, f)
-    (long-row (a .self) (length (now (a .out))) r (now (c .before .before .before .before .before .before .before .rest .result)) (now (c .before .before .before .before .before .before .rest2 .result)) (now (c .before .before .before .before .before .rest3 .result)) (now (c .before .before .before .before .rest4 .result)) (now (c .before .before .before .rest5 .result)) (record { at1 = at1; at2 = at2; at3 = at3; at4 = at4; at5 = at5 }) (omega arith) (c .before .before .before .before .before .before .before .before .before .before .before .before .before .before .mean-with-next .last .0) (c .before .before .apply-half-pel .last .1 .0) (c .before .before .before .before .before .before .before .before .before .before .before .before .before .before .mean-with-next .ensures) (rw (e, f) at (c .before .before .apply-half-pel .ensures)))
+    let f = c .before .before .before .before .before .before .before .before .before .before .tail .ensures .0 in
+    let parts : Parts (c .before .before .before .before .before .before .before .before .before .before .before .lead .result) (now (a .row)) (now (c .before .before .before .before .before .before .before .rest .result)) (now (c .before .before .before .before .before .before .rest2 .result)) (now (c .before .before .before .before .before .rest3 .result)) (now (c .before .before .before .before .rest4 .result)) (now (c .before .before .before .rest5 .result)) = record { at1 = c .before .before .before .before .before .before .before .rest .ensures; at2 = c .before .before .before .before .before .before .rest2 .ensures; at3 = c .before .before .before .before .before .rest3 .ensures; at4 = c .before .before .before .before .rest4 .ensures; at5 = c .before .before .before .rest5 .ensures } in
+    rw (e, f) (long-row (a .self) (length (now (a .out))) (now (a .row)) (rw e at parts) (omega arith) (c .before .before .before .before .before .before .before .before .before .before .before .before .before .before .mean-with-next .last .0) (c .before .before .apply-half-pel .last .1 .0) (c .before .before .before .before .before .before .before .before .before .before .before .before .before .before .mean-with-next .ensures) (rw (e, f) at (c .before .before .apply-half-pel .ensures)))
 
 pub horizontal-spec : {M : Type 1} → statement M
 horizontal-spec =
@@ -101,7 +90,7 @@ horizontal-spec =
     (tie.spec
     mean-with-next-requires
     lead-requires
-    rear-requires
+    tail-requires
     add-if1
     same-length
     returns

@@ -4,7 +4,7 @@ use native.Mathlib.Omega.{arith}
 use denote.Ref.{now}
 use lib.ListN.{length}
 use borrow.Author.Needs.{needs}
-use Rattle.filters.specs.Refine.{rearOf}
+use Rattle.filters.specs.Refine.{tailOf}
 use Rattle.filters.proofs.Places.{near-end, vertical-copy, vertical-mean, vertical-kernel}
 use Rattle.filters.proofs.half_pel.HalfPel.vertical.Statement.{statement}
 use Rattle.filters.proofs.half_pel.HalfPel.vertical.Tie as tie
@@ -24,8 +24,8 @@ returns c = let a = c .before .before .before .before .before .before .before .b
 lead-requires : tie.Need-lead-requires
 lead-requires c κs = search needs
 
-rear-requires : tie.Need-rear-requires
-rear-requires c κs = search needs
+tail-requires : tie.Need-tail-requires
+tail-requires c κs = search needs
 
 mean-row-requires : tie.Need-mean-row-requires
 mean-row-requires c κs = search needs
@@ -35,7 +35,7 @@ same-length-2 c = search needs
 
 returns-2 : tie.Need-returns-2
 returns-2 c = let a = c .before .before .before .before .before .before .before .before .before .before .before .before .before .before .before .args in
-    let e = rw (c .before .before .before .before .before .before .lead .ensures .0, c .before .before .before .before .before .rear .ensures .0, near-end (a .y) (a .h) (rearOf (a .self))) at (c .before .before .before .before .if2 .taken) in
+    let e = rw (c .before .before .before .before .before .before .lead .ensures .0, c .before .before .before .before .before .tail .ensures .0, near-end (a .y) (a .h) (tailOf (a .self))) at (c .before .before .before .before .if2 .taken) in
     c .before .before .mean-row .ensures ∙ vertical-mean (a .self) (a .y) (a .h) (length (now (a .out))) (now (a .m2)) (now (a .m1)) (now (a .c0)) (now (a .p1)) (now (a .p2)) (now (a .p3)) (omega arith) e
 
 apply-half-pel-requires : tie.Need-apply-half-pel-requires
@@ -46,7 +46,7 @@ same-length-3 c = search needs
 
 returns-3 : tie.Need-returns-3
 returns-3 c = let a = c .before .before .before .before .before .before .before .before .before .before .before .before .before .before .before .args in
-    let e = rw (c .before .before .before .before .before .before .lead .ensures .0, c .before .before .before .before .before .rear .ensures .0, near-end (a .y) (a .h) (rearOf (a .self))) at (c .before .before .before .before .if2 .left) in
+    let e = rw (c .before .before .before .before .before .before .lead .ensures .0, c .before .before .before .before .before .tail .ensures .0, near-end (a .y) (a .h) (tailOf (a .self))) at (c .before .before .before .before .if2 .left) in
     c .before .before .apply-half-pel .ensures ∙ vertical-kernel (a .self) (a .y) (a .h) (length (now (a .out))) (now (a .m2)) (now (a .m1)) (now (a .c0)) (now (a .p1)) (now (a .p2)) (now (a .p3)) (omega arith) e
 
 pub vertical-spec : {M : Type 1} → statement M
@@ -58,7 +58,7 @@ vertical-spec =
     same-length
     returns
     lead-requires
-    rear-requires
+    tail-requires
     mean-row-requires
     same-length-2
     returns-2

@@ -6,14 +6,14 @@ use Rattle.filters.proofs.halving.ReduceFilter.vertical_edge.Tie as tie
 
 -- `ReduceFilter::vertical_edge` meets its contract. Assumes nothing.
 
-ends-requires : tie.Need-ends-requires
-ends-requires c κs = search needs
+last-is-mean-requires : tie.Need-last-is-mean-requires
+last-is-mean-requires c κs = search needs
 
 add-result : tie.Need-add-result
 add-result c = omega arith
 
 returns : tie.Need-returns
-returns c = rw (c .ends .ensures)
+returns c = rw (c .last-is-mean .ensures)
 
 pub vertical-edge-spec : {M : Type 1} → statement M
-vertical-edge-spec = tie.close (tie.spec ends-requires add-result returns)
+vertical-edge-spec = tie.close (tie.spec last-is-mean-requires add-result returns)
