@@ -225,14 +225,16 @@ impl ReduceFilter {
         if n == 0 {
             return;
         }
-        let first = mean(src[0], src[1]);
+        let left = src[0];
+        let right = src[1];
+        let first = mean(left, right);
         out[0] = first;
         if n == 1 {
             return;
         }
         let last = n - 1;
         let mut e0 = wide(first);
-        let mut o0 = wide(src[1]);
+        let mut o0 = wide(right);
         let mut e1 = wide(src[2]);
         let mut o1 = wide(src[3]);
         for i in 1..last {

@@ -12,20 +12,20 @@ use Rattle.filters.proofs.halving.ReduceFilter.reduce_row.Statement.{st
 use Rattle.filters.proofs.halving.ReduceFilter.reduce_row.Tie as tie
 
 abbrev Inv-loop : tie.InvT-loop
-Inv-loop self out₀ src n first last e0₀ o0₀ e1₀ o1₀ i₀ out e0 o0 e1 o1 i = Filled (horizontalAt self n src) out n i × (1 ≤ i) × (i ≤ last) × Window src i e0 o0 e1 o1
+Inv-loop self out₀ src n left right first last e0₀ o0₀ e1₀ o1₀ i₀ out e0 o0 e1 o1 i = Filled (horizontalAt self n src) out n i × (1 ≤ i) × (i ≤ last) × Window src i e0 o0 e1 o1
 
 abbrev μ-loop : tie.MeasureT-loop
-μ-loop self out₀ src n first last e0₀ o0₀ e1₀ o1₀ i₀ out e0 o0 e1 o1 i = last - i
+μ-loop self out₀ src n left right first last e0₀ o0₀ e1₀ o1₀ i₀ out e0 o0 e1 o1 i = last - i
 
 returns : tie.Need-returns Inv-loop μ-loop
 unfolding horizontalRow
 returns c = filled-whole (filled-none refl) (omega arith)
 
-shared-slice-read-mean : tie.Need-shared-slice-read-mean Inv-loop μ-loop
-shared-slice-read-mean c = omega arith
+shared-slice-read-left : tie.Need-shared-slice-read-left Inv-loop μ-loop
+shared-slice-read-left c = omega arith
 
-shared-slice-read-mean-2 : tie.Need-shared-slice-read-mean-2 Inv-loop μ-loop
-shared-slice-read-mean-2 c = omega arith
+shared-slice-read-right : tie.Need-shared-slice-read-right Inv-loop μ-loop
+shared-slice-read-right c = omega arith
 
 mean-requires : tie.Need-mean-requires Inv-loop μ-loop
 mean-requires c κs = search needs
@@ -38,8 +38,7 @@ same-length c = search needs
 
 returns-2 : tie.Need-returns-2 Inv-loop μ-loop
 unfolding horizontalRow
-returns-2 c = let a = c .before .before .before .before .before .before .before .args in
-    filled-whole (filled-one (now (a .out)) (omega arith) (c .before .mean .ensures ∙ first-output (a .self) (length (now (a .out))) (now (a .src)))) (omega arith)
+returns-2 c = let a = c .before .before .before .before .before .before .before .args in filled-whole (filled-one (now (a .out)) (omega arith) (c .before .mean .ensures ∙ first-output (a .self) (length (now (a .out))) (now (a .src)))) (omega arith)
 
 sub-last : tie.Need-sub-last Inv-loop μ-loop
 sub-last c = omega arith
@@ -47,28 +46,25 @@ sub-last c = omega arith
 wide-requires : tie.Need-wide-requires Inv-loop μ-loop
 wide-requires c κs = search needs
 
-shared-slice-read-wide : tie.Need-shared-slice-read-wide Inv-loop μ-loop
-shared-slice-read-wide c = omega arith
-
 wide-requires-2 : tie.Need-wide-requires-2 Inv-loop μ-loop
 wide-requires-2 c κs = search needs
 
-shared-slice-read-wide-2 : tie.Need-shared-slice-read-wide-2 Inv-loop μ-loop
-shared-slice-read-wide-2 c = omega arith
+shared-slice-read-wide : tie.Need-shared-slice-read-wide Inv-loop μ-loop
+shared-slice-read-wide c = omega arith
 
 wide-requires-3 : tie.Need-wide-requires-3 Inv-loop μ-loop
 wide-requires-3 c κs = search needs
 
-shared-slice-read-wide-3 : tie.Need-shared-slice-read-wide-3 Inv-loop μ-loop
-shared-slice-read-wide-3 c = omega arith
+shared-slice-read-wide-2 : tie.Need-shared-slice-read-wide-2 Inv-loop μ-loop
+shared-slice-read-wide-2 c = omega arith
 
 wide-requires-4 : tie.Need-wide-requires-4 Inv-loop μ-loop
 wide-requires-4 c κs = search needs
 
 loop-holds : tie.Need-loop-holds Inv-loop μ-loop
-loop-holds c = let a = c .before .before .before .before .before .before .before .before .before .before .before .before .before .before .args in
-    let m = c .before .before .before .before .before .before .before .before .mean in
-    let w = c .before .before .before .before .before .before .wide .ensures in
+loop-holds c = let a = c .before .before .before .before .before .before .before .before .before .before .before .before .before .args in
+    let m = c .before .before .before .before .before .before .before .mean in
+    let w = c .before .before .before .before .before .wide .ensures in
     (filled-one (now (a .out)) (omega arith) (m .ensures ∙ first-output (a .self) (length (now (a .out))) (now (a .src))), omega arith, omega arith, window-first (omega arith) (record { is = w .is ∙ m .ensures; low = w .low }) (c .before .before .before .before .wide2 .ensures) (c .before .before .wide3 .ensures) (c .wide4 .ensures))
 
 mul-j : tie.Need-mul-j Inv-loop μ-loop
@@ -77,8 +73,8 @@ mul-j c = omega arith
 add-j : tie.Need-add-j Inv-loop μ-loop
 add-j c = omega arith
 
-shared-slice-read-wide-4 : tie.Need-shared-slice-read-wide-4 Inv-loop μ-loop
-shared-slice-read-wide-4 c = omega arith
+shared-slice-read-wide-3 : tie.Need-shared-slice-read-wide-3 Inv-loop μ-loop
+shared-slice-read-wide-3 c = omega arith
 
 wide-requires-5 : tie.Need-wide-requires-5 Inv-loop μ-loop
 wide-requires-5 c κs = search needs
@@ -86,8 +82,8 @@ wide-requires-5 c κs = search needs
 add-wide : tie.Need-add-wide Inv-loop μ-loop
 add-wide c = omega arith
 
-shared-slice-read-wide-5 : tie.Need-shared-slice-read-wide-5 Inv-loop μ-loop
-shared-slice-read-wide-5 c = omega arith
+shared-slice-read-wide-4 : tie.Need-shared-slice-read-wide-4 Inv-loop μ-loop
+shared-slice-read-wide-4 c = omega arith
 
 wide-requires-6 : tie.Need-wide-requires-6 Inv-loop μ-loop
 wide-requires-6 c κs = search needs
@@ -105,7 +101,7 @@ loop-less : tie.Need-loop-less Inv-loop μ-loop
 loop-less c = omega arith
 
 loop-again : tie.Need-loop-again Inv-loop μ-loop
-loop-again c = let a = c .before .before .before .before .before .before .before .before .before .before .before .before .before .before .before .before .before .before .before .before .before .args in
+loop-again c = let a = c .before .before .before .before .before .before .before .before .before .before .before .before .before .before .before .before .before .before .before .before .args in
     let l = c .before .before .before .before .before .before .loop in
     let x = c .before .before .before .wide5 .ensures in
     let y = c .before .wide6 .ensures in
@@ -122,7 +118,7 @@ same-length-2 c = search needs
 
 returns-3 : tie.Need-returns-3 Inv-loop μ-loop
 unfolding horizontalRow
-returns-3 c = let a = c .before .before .before .before .before .before .before .before .before .before .before .before .before .before .before .before .before .args in
+returns-3 c = let a = c .before .before .before .before .before .before .before .before .before .before .before .before .before .before .before .before .args in
     let l = c .before .before .loop in
     let n = length (now (a .out)) in
     let e : n - 1 ≡ l .i = omega arith in
@@ -136,27 +132,26 @@ reduce-row-spec =
     Inv-loop
     μ-loop
     returns
-    shared-slice-read-mean
-    shared-slice-read-mean-2
+    shared-slice-read-left
+    shared-slice-read-right
     mean-requires
     slice-write-out
     same-length
     returns-2
     sub-last
     wide-requires
-    shared-slice-read-wide
     wide-requires-2
-    shared-slice-read-wide-2
+    shared-slice-read-wide
     wide-requires-3
-    shared-slice-read-wide-3
+    shared-slice-read-wide-2
     wide-requires-4
     loop-holds
     mul-j
     add-j
-    shared-slice-read-wide-4
+    shared-slice-read-wide-3
     wide-requires-5
     add-wide
-    shared-slice-read-wide-5
+    shared-slice-read-wide-4
     wide-requires-6
     weigh-requires
     slice-write-out-2
