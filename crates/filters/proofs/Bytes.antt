@@ -1,10 +1,10 @@
 -- Bytes in give bytes out: every row made of bytes is of bytes. Assumes nothing.
-use mathlib.Core.Bool.{Bool, true, false, cond, _||_}
+use mathlib.Core.Bool.{Bool, true, false, cond}
 use mathlib.Core.List.{List, [], _∷_}
 use mathlib.Core.Logic.{⊎-elim}
 use Prim.Native.Nat.{ℕ, zero, suc, _+_, _*_, _-_, _≤_, _<_}
 use native.Mathlib.Omega.{arith}
-use lib.Dec.{leb, ltb}
+use lib.Dec.{leb}
 use lib.ListN.{getD, List·getD-eq-default}
 use Rattle.filters.specs.declared.halving.ReduceFilter.{ReduceFilter}
 use Rattle.filters.specs.declared.halving.ReduceFilter.the-variants.{Average, Bilinear, Quadratic, Cubic}
@@ -12,8 +12,8 @@ use Rattle.filters.specs.declared.half_pel.HalfPel.{HalfPel}
 use Rattle.filters.specs.declared.half_pel.HalfPel.the-variants.{CatmullRom, Wiener}
 use Rattle.filters.specs.Row.{Six, tab, meanOf, meansOf, sixAt, sixes, around}
 use Rattle.filters.specs.Halve.{isEdge, weigh, restOf, headed, horizontalAt, horizontalRow}
-use Rattle.filters.specs.Refine.{leadOf, tailOf, halfPel, placed, halfHorizontal, halfVertical}
-use Rattle.filters.proofs.Integers.{below-or}
+use Rattle.filters.specs.Refine.{isMean, halfPel, placed, halfHorizontal, halfVertical}
+use Rattle.filters.proofs.Tests.{below-or}
 use Rattle.filters.proofs.Tables.{tab-at, tab-length}
 
 abbrev pub Bytes : List ℕ → Type 0
@@ -52,7 +52,7 @@ half-byte CatmullRom m2 m1 c0 p1 p2 p3 h2 h1 g0 g1 g2 g3 = omega arith
 half-byte Wiener m2 m1 c0 p1 p2 p3 h2 h1 g0 g1 g2 g3 = omega arith
 
 placed-byte : (k : HalfPel) (i n : ℕ) → ByteRule (placed k i n)
-placed-byte k i n m2 m1 c0 p1 p2 p3 h2 h1 g0 g1 g2 g3 = cond-byte (leb n (i + 1)) _ _ g0 (cond-byte (ltb i (leadOf k) || leb n (i + tailOf k)) _ _ (mean-byte c0 p1 g0 g1) (half-byte k m2 m1 c0 p1 p2 p3 h2 h1 g0 g1 g2 g3))
+placed-byte k i n m2 m1 c0 p1 p2 p3 h2 h1 g0 g1 g2 g3 = cond-byte (leb n (i + 1)) _ _ g0 (cond-byte (isMean k i n) _ _ (mean-byte c0 p1 g0 g1) (half-byte k m2 m1 c0 p1 p2 p3 h2 h1 g0 g1 g2 g3))
 
 around-byte : (k : Six) (r : List ℕ) (i : ℕ) → ByteRule k → Bytes r → around k r i < 256
 around-byte k r i rule b = rule _ _ _ _ _ _ (b (i - 2)) (b (i - 1)) (b i) (b (i + 1)) (b (i + 2)) (b (i + 3))

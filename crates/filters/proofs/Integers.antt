@@ -1,7 +1,7 @@
 -- An integer known by its bits; a difference of naturals among the integers, and what holding it to 0..255 makes of it. Assumes nothing.
-use mathlib.Core.Path.{_≡_, refl, sym, ap, _∙_}
-use mathlib.Core.Bool.{Bool, true, false, cond}
-use mathlib.Core.Logic.{_⊎_, inl, inr, ⊎-elim}
+use mathlib.Core.Path.{_≡_, sym, ap, _∙_}
+use mathlib.Core.Bool.{Bool, cond}
+use mathlib.Core.Logic.{_⊎_, ⊎-elim}
 use Prim.Native.Nat.{ℕ, zero, suc, _+_, _-_, _/_, _^_, _≤_, _<_, min}
 use native.Mathlib.Omega.{arith}
 use native.Mathlib.Nat.{zero-div}
@@ -10,20 +10,14 @@ use mir.Syntax.{w32}
 use mir.Val.{SFits, ofZ, toZ}
 use mir.Facts.{toZ-ofZ, toZ-pos}
 use lib.IntN.{ℤ, pos, negsuc, subℕ, _+ℤ_, _-ℤ_}
-use borrow.Author.Tests.{lt-ltb, le-ltb, ltb-true, ltb-false}
+use borrow.Author.Tests.{lt-ltb, le-ltb}
 use Rattle.filters.specs.H264.{clip1, shr}
+use Rattle.filters.proofs.Tests.{below-or}
 
-below-go : (a b : ℕ) (t : Bool) → ltb a b ≡ t → (a < b) ⊎ (b ≤ a)
-below-go a b true e = inl (ltb-true a b e)
-below-go a b false e = inr (ltb-false a b e)
-
-pub below-or : (a b : ℕ) → (a < b) ⊎ (b ≤ a)
-below-or a b = below-go a b (ltb a b) refl
-
-pub sub-less : (a b : ℕ) → a < b → subℕ a b ≡ negsuc (b - suc a)
+sub-less : (a b : ℕ) → a < b → subℕ a b ≡ negsuc (b - suc a)
 sub-less a b h = rw (lt-ltb a b h)
 
-pub sub-more : (a b : ℕ) → b ≤ a → subℕ a b ≡ pos (a - b)
+sub-more : (a b : ℕ) → b ≤ a → subℕ a b ≡ pos (a - b)
 sub-more a b h = rw (le-ltb a b h)
 
 -- one difference, two ways

@@ -1,6 +1,6 @@
 -- A row of pairs halved: byte 0 replaced by output 0, two pairs that are carried along the row, and an output from them. Assumes nothing.
 use mathlib.Core.Path.{_≡_, refl, sym, ap, _∙_}
-use mathlib.Core.Bool.{Bool, true, false, cond, _&&_}
+use mathlib.Core.Bool.{Bool, false, cond}
 use mathlib.Core.List.{List}
 use Prim.Native.Nat.{ℕ, _+_, _*_, _-_, _≤_, _<_}
 use native.Mathlib.Omega.{arith}
@@ -11,6 +11,7 @@ use Rattle.filters.specs.declared.halving.ReduceFilter.{ReduceFilter}
 use Rattle.filters.specs.declared.halving.ReduceFilter.the-variants.{Average, Bilinear, Quadratic, Cubic}
 use Rattle.filters.specs.Row.{Widened, meanOf, around}
 use Rattle.filters.specs.Halve.{lastIsMean, isEdge, weigh, headed, horizontalAt}
+use Rattle.filters.proofs.Tests.{and-no, and-yes}
 
 headed-first : (v : List ℕ) → 0 < length v → meanOf (getD v 0 0) (getD v 1 0) ≡ getD (headed v) 0 0
 unfolding headed
@@ -20,19 +21,11 @@ headed-later : (v : List ℕ) (j : ℕ) → 0 < j → getD v j 0 ≡ getD (heade
 unfolding headed
 headed-later v j h = sym (getD-set-other v 0 j (meanOf (getD v 0 0) (getD v 1 0)) 0 (λ e. omega arith))
 
-and-false : (t : Bool) → (t && false) ≡ false
-and-false true = refl
-and-false false = refl
-
-and-true : (t : Bool) → (t && true) ≡ t
-and-true true = refl
-and-true false = refl
-
 no-edge : (f : ReduceFilter) (i n : ℕ) → 0 < i → i + 1 < n → isEdge f i n ≡ false
-no-edge f i n more lt = rw (ne-eqb i 0 (λ e. omega arith), lt-leb n (i + 1) lt) (and-false (lastIsMean f))
+no-edge f i n more lt = rw (ne-eqb i 0 (λ e. omega arith), lt-leb n (i + 1) lt) (and-no (lastIsMean f))
 
 edge-last : (f : ReduceFilter) (i n : ℕ) → 0 < i → i + 1 ≡ n → isEdge f i n ≡ lastIsMean f
-edge-last f i n more e = rw (ne-eqb i 0 (λ z. omega arith), le-leb n (i + 1) (omega arith)) (and-true (lastIsMean f))
+edge-last f i n more e = rw (ne-eqb i 0 (λ z. omega arith), le-leb n (i + 1) (omega arith)) (and-yes (lastIsMean f))
 
 pub first-output : (f : ReduceFilter) (n : ℕ) (v : List ℕ) → meanOf (getD v 0 0) (getD v 1 0) ≡ horizontalAt f n v 0
 unfolding horizontalAt

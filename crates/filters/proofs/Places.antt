@@ -1,20 +1,20 @@
 -- Half samples: what each place takes, a row down the rows, and a row whose places between the edges were written over. Assumes nothing.
 use mathlib.Core.Path.{_≡_, refl, sym, ap, _∙_}
-use mathlib.Core.Bool.{Bool, true, false, _||_}
+use mathlib.Core.Bool.{true, false}
 use mathlib.Core.List.{List, _++_}
 use mathlib.Core.Logic.{⊎-elim}
 use Prim.Native.Nat.{ℕ, _+_, _-_, _≤_, _<_}
 use native.Mathlib.Nat.{le-trans, min-le-left}
 use native.Mathlib.Omega.{arith}
-use lib.Dec.{leb, ltb}
+use lib.Dec.{ltb}
 use lib.ListN.{length, getD, set, take, drop, length-append, length-take, length-drop, List·getD-append}
 use lib.Seq.{getD-drop, length-take-le}
 use borrow.Author.Tests.{lt-ltb, le-ltb, le-leb, lt-leb}
 use Rattle.filters.specs.declared.half_pel.HalfPel.{HalfPel}
 use Rattle.filters.specs.declared.half_pel.HalfPel.the-variants.{CatmullRom, Wiener}
 use Rattle.filters.specs.Row.{Reach, tab, meanOf, meansOf, sixAt, sixes, around}
-use Rattle.filters.specs.Refine.{leadOf, tailOf, halfPel, placed, nextAt, nextMeans, halfHorizontal, halfVertical}
-use Rattle.filters.proofs.Integers.{below-or}
+use Rattle.filters.specs.Refine.{isMean, leadOf, tailOf, halfPel, placed, nextAt, nextMeans, halfHorizontal, halfVertical}
+use Rattle.filters.proofs.Tests.{below-or, or-yes}
 use Rattle.filters.proofs.Filling.{Filled, filled-more, filled-whole}
 use Rattle.filters.proofs.Tables.{tab-at, tab-length, tab-ext, take-tab, back-tab}
 
@@ -22,31 +22,23 @@ module _ (k : HalfPel) (i n m2 m1 c0 p1 p2 p3 : ℕ) where
   placed-copy : n ≤ i + 1 → c0 ≡ placed k i n m2 m1 c0 p1 p2 p3
   placed-copy le = rw (le-leb n (i + 1) le)
 
-  placed-mean : i + 1 < n → (ltb i (leadOf k) || leb n (i + tailOf k)) ≡ true → meanOf c0 p1 ≡ placed k i n m2 m1 c0 p1 p2 p3
+  placed-mean : i + 1 < n → isMean k i n ≡ true → meanOf c0 p1 ≡ placed k i n m2 m1 c0 p1 p2 p3
   placed-mean lt e = rw (lt-leb n (i + 1) lt, e)
 
-  placed-kernel : i + 1 < n → (ltb i (leadOf k) || leb n (i + tailOf k)) ≡ false → halfPel k m2 m1 c0 p1 p2 p3 ≡ placed k i n m2 m1 c0 p1 p2 p3
+  placed-kernel : i + 1 < n → isMean k i n ≡ false → halfPel k m2 m1 c0 p1 p2 p3 ≡ placed k i n m2 m1 c0 p1 p2 p3
   placed-kernel lt e = rw (lt-leb n (i + 1) lt, e)
 
 -- ---- down the rows
--- a row counted from the end
-pub near-end : (y h t : ℕ) → leb (h - y) t ≡ leb h (y + t)
-near-end y h t =
-    ⊎-elim
-    (λ (lt : y + t < h). rw (lt-leb (h - y) t (omega arith), lt-leb h (y + t) lt))
-    (λ (le : h ≤ y + t). rw (le-leb (h - y) t (omega arith), le-leb h (y + t) le))
-    (below-or (y + t) h)
-
 module _ (k : HalfPel) (y h n : ℕ) (m2 m1 c0 p1 p2 p3 : List ℕ) where
   pub vertical-copy : h ≤ y + 1 → n ≤ length c0 → take n c0 ≡ halfVertical k y h n m2 m1 c0 p1 p2 p3
   unfolding halfVertical sixes
   vertical-copy le long = take-tab n c0 long ∙ tab-ext (λ i. getD c0 i 0) (sixAt (placed k y h) m2 m1 c0 p1 p2 p3) n (λ i lt. placed-copy k y h _ _ (getD c0 i 0) _ _ _ le)
 
-  pub vertical-mean : y + 1 < h → (ltb y (leadOf k) || leb h (y + tailOf k)) ≡ true → meansOf n c0 p1 ≡ halfVertical k y h n m2 m1 c0 p1 p2 p3
+  pub vertical-mean : y + 1 < h → isMean k y h ≡ true → meansOf n c0 p1 ≡ halfVertical k y h n m2 m1 c0 p1 p2 p3
   unfolding halfVertical sixes meansOf
   vertical-mean lt e = tab-ext (λ i. meanOf (getD c0 i 0) (getD p1 i 0)) (sixAt (placed k y h) m2 m1 c0 p1 p2 p3) n (λ i h. placed-mean k y _ _ _ _ _ _ _ lt e)
 
-  pub vertical-kernel : y + 1 < h → (ltb y (leadOf k) || leb h (y + tailOf k)) ≡ false → sixes (halfPel k) n m2 m1 c0 p1 p2 p3 ≡ halfVertical k y h n m2 m1 c0 p1 p2 p3
+  pub vertical-kernel : y + 1 < h → isMean k y h ≡ false → sixes (halfPel k) n m2 m1 c0 p1 p2 p3 ≡ halfVertical k y h n m2 m1 c0 p1 p2 p3
   unfolding halfVertical sixes
   vertical-kernel lt e = tab-ext (sixAt (halfPel k) m2 m1 c0 p1 p2 p3) (sixAt (placed k y h) m2 m1 c0 p1 p2 p3) n (λ i h. placed-kernel k y _ _ _ _ _ _ _ lt e)
 
@@ -54,10 +46,6 @@ module _ (k : HalfPel) (y h n : ℕ) (m2 m1 c0 p1 p2 p3 : List ℕ) where
 tail-some : (k : HalfPel) → 1 < tailOf k
 tail-some CatmullRom = omega arith
 tail-some Wiener = omega arith
-
-or-true : (t : Bool) → (t || true) ≡ true
-or-true true = refl
-or-true false = refl
 
 next-inner : (n : ℕ) (r : List ℕ) (i : ℕ) → i + 1 < n → meanOf (getD r i 0) (getD r (i + 1) 0) ≡ nextAt n r i
 unfolding nextAt
@@ -88,20 +76,20 @@ next-made n o r t m long some next means =
     filled-whole (filled-more filled (omega arith) (next-last n r (n - 1) (omega arith))) (omega arith)
 
 module _ (k : HalfPel) (n : ℕ) (r : List ℕ) where
-  by-edges : (i : ℕ) → (ltb i (leadOf k) || leb n (i + tailOf k)) ≡ true → nextAt n r i ≡ around (placed k i n) r i
+  by-edges : (i : ℕ) → isMean k i n ≡ true → nextAt n r i ≡ around (placed k i n) r i
   by-edges i e =
       ⊎-elim
       (λ (lt : i + 1 < n). sym (next-inner n r i lt) ∙ placed-mean k i n _ _ _ _ _ _ lt e)
       (λ (le : n ≤ i + 1). sym (next-last n r i le) ∙ placed-copy k i n _ _ _ _ _ _ le)
       (below-or (i + 1) n)
 
-  at-front : (i : ℕ) → i < leadOf k → (ltb i (leadOf k) || leb n (i + tailOf k)) ≡ true
+  at-front : (i : ℕ) → i < leadOf k → isMean k i n ≡ true
   at-front i lt = rw (lt-ltb i (leadOf k) lt)
 
-  at-tail : (i : ℕ) → n ≤ i + tailOf k → (ltb i (leadOf k) || leb n (i + tailOf k)) ≡ true
-  at-tail i le = rw (le-leb n (i + tailOf k) le) (or-true (ltb i (leadOf k)))
+  at-tail : (i : ℕ) → n ≤ i + tailOf k → isMean k i n ≡ true
+  at-tail i le = rw (le-leb n (i + tailOf k) le) (or-yes (ltb i (leadOf k)))
 
-  between : (i : ℕ) → leadOf k ≤ i → i + tailOf k < n → (ltb i (leadOf k) || leb n (i + tailOf k)) ≡ false
+  between : (i : ℕ) → leadOf k ≤ i → i + tailOf k < n → isMean k i n ≡ false
   between i le lt = rw (le-ltb i (leadOf k) le, lt-leb n (i + tailOf k) lt)
 
   -- a row too short for the kernel
@@ -167,7 +155,7 @@ module _ (k : HalfPel) (n : ℕ) (r : List ℕ) {m1 c0 p1 p2 p3 : List ℕ} (par
       let ol : length o ≡ n = ap length edges ∙ tab-length (nextAt n r) n in
       let sl : length (take (e - a) (drop a o)) ≡ e - a = length-take-le (e - a) (drop a o) (omega (arith, length-drop a o)) in
       let is : s ≡ tab inner (e - a) = kernel ∙ ap (tab inner) sl in
-      let edge : (i : ℕ) → i < n → (ltb i (leadOf k) || leb n (i + tailOf k)) ≡ true → getD o i 0 ≡ f i = λ i lt t. ap (λ (l : List ℕ). getD l i 0) edges ∙ tab-at (nextAt n r) n i lt ∙ by-edges k n r i t in
+      let edge : (i : ℕ) → i < n → isMean k i n ≡ true → getD o i 0 ≡ f i = λ i lt t. ap (λ (l : List ℕ). getD l i 0) edges ∙ tab-at (nextAt n r) n i lt ∙ by-edges k n r i t in
       back-tab o s a e (omega arith) (omega arith) (ap length is ∙ tab-length inner (e - a)) f n ol
       (λ i lt. edge i (omega arith) (at-front k n r i lt))
       (λ j lt. ap (λ (l : List ℕ). getD l j 0) is ∙ tab-at inner (e - a) j lt ∙ part-taps j ∙ placed-kernel k (a + j) n _ _ _ _ _ _ (omega (arith, tail-some k)) (between k n r (a + j) (omega arith) (omega arith)))

@@ -8,7 +8,7 @@ use native.Mathlib.Omega.{arith}
 use lib.ListN.{length, getD, take, drop, replicate, length-append, length-drop, length-replicate, getD-replicate, List·getD-append}
 use lib.Seq.{ext-getD, getD-append-seam, getD-append-add, getD-take, getD-drop, length-take-le}
 use Rattle.filters.specs.Row.{Six, tab, sixAt, sixes}
-use Rattle.filters.proofs.Integers.{below-or}
+use Rattle.filters.proofs.Tests.{below-or}
 
 pub tab-length : (f : ℕ → ℕ) (n : ℕ) → length (tab f n) ≡ n
 unfolding tab

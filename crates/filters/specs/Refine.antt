@@ -1,6 +1,6 @@
 -- Document 01, "Refining": the half-pel kernels, and which place takes what.
 use Prim.Native.Nat.{ℕ, _+_, _*_, _-_, _/_, min}
-use mathlib.Core.Bool.{cond, _||_}
+use mathlib.Core.Bool.{Bool, cond, _||_}
 use mathlib.Core.List.{List}
 use lib.Dec.{leb, ltb, eqb}
 use lib.IntN.{ℤ, pos, negsuc}
@@ -35,10 +35,14 @@ abbrev pub tailOf : HalfPel → ℕ
 tailOf CatmullRom = 3
 tailOf Wiener = 4
 
+-- place i of n is a mean with the next, if it isn't the last
+abbrev pub isMean : HalfPel → ℕ → ℕ → Bool
+isMean k i n = ltb i (leadOf k) || leb n (i + tailOf k)
+
 -- place i of n: "The last place is a copy."
 abbrev pub placed : HalfPel → ℕ → ℕ → Six
 placed k i n m2 m1 c0 p1 p2 p3 =
-    cond (leb n (i + 1)) c0 (cond (ltb i (leadOf k) || leb n (i + tailOf k)) (meanOf c0 p1) (halfPel k m2 m1 c0 p1 p2 p3))
+    cond (leb n (i + 1)) c0 (cond (isMean k i n) (meanOf c0 p1) (halfPel k m2 m1 c0 p1 p2 p3))
 
 -- a row of n bytes by the edges' rule alone: means with the next, and the copied place
 unfoldable pub nextAt : ℕ → List ℕ → ℕ → ℕ

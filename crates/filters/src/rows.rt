@@ -9,6 +9,7 @@ pub fn mean(a: u8, b: u8) -> u8
     (((a as u16) + (b as u16) + 1) >> 1) as u8
 }
 
+// The means of two rows, place by place.
 pub fn mean_row(out: &mut [u8], a: &[u8], b: &[u8])
     requires { ⌜ (length (now out) ≤ length (now a)) × (length (now out) ≤ length (now b)) ⌝ }
     ensures { λ r. ⌜ now (out .exit) ≡ meansOf (length (now (out .entry))) (now (a .entry)) (now (b .entry)) ⌝ }
@@ -19,6 +20,7 @@ pub fn mean_row(out: &mut [u8], a: &[u8], b: &[u8])
     }
 }
 
+// The front of a row, as far as out is long.
 pub fn copy_row(out: &mut [u8], row: &[u8])
     requires { ⌜ length (now out) ≤ length (now row) ⌝ }
     ensures { λ r. ⌜ now (out .exit) ≡ take (length (now (out .entry))) (now (row .entry)) ⌝ }

@@ -5,7 +5,8 @@ use denote.Ref.{now}
 use lib.ListN.{length}
 use borrow.Author.Needs.{needs}
 use Rattle.filters.specs.Refine.{tailOf}
-use Rattle.filters.proofs.Places.{near-end, vertical-copy, vertical-mean, vertical-kernel}
+use Rattle.filters.proofs.Tests.{near-end}
+use Rattle.filters.proofs.Places.{vertical-copy, vertical-mean, vertical-kernel}
 use Rattle.filters.proofs.half_pel.HalfPel.vertical.Statement.{statement}
 use Rattle.filters.proofs.half_pel.HalfPel.vertical.Tie as tie
 
