@@ -3,7 +3,7 @@
 --     Tables      rows made by a rule
 --     Filling     a loop that writes out[i] = f i
 --     Integers    differences among the integers, held to 0..255
---     Kernels     the Wiener kernel is H.264's; the bicubic one document 01's; the generic cubic's other columns are by the cubic's weights
+--     Kernels     the Wiener kernel is H.264's; the bicubic one document 01's; the generic cubic's other columns are by the cubic's weights; which rows a filter reads
 --     Lengths     a row has as many bytes as it is asked for
 --     Bytes       bytes in give bytes out
 --     Chosen      settings known by their bits

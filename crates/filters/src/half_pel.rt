@@ -1,7 +1,7 @@
 use crate::rows::copy_row;
 use crate::rows::mean_row;
 ghost use mathlib.Core.Path.{_≡_};
-ghost use Prim.Native.Nat.{_+_, _*_, _-_, _/_, _≤_, _<_, min};
+ghost use Prim.Native.Nat.{_-_, _≤_, _<_, min};
 ghost use lib.ListN.{length, drop};
 ghost use Rattle.filters.specs.Row.{Reach, sixes};
 ghost use Rattle.filters.specs.Refine.{upscale, leadOf, tailOf, halfPel, nextMeans, halfHorizontal, halfVertical};
