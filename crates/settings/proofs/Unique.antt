@@ -38,6 +38,8 @@ use Rattle.settings.proofs.text.hex_word.Reads as hex-word-reads
 use Rattle.settings.proofs.text.line_end.Kinds as line-end-kinds
 use Rattle.settings.proofs.text.line_end.Reads as line-end-reads
 use Rattle.settings.proofs.Lines.{end-known}
+use Rattle.settings.proofs.super_opts.reduce_dim.Kinds as reduce-dim-kinds
+use Rattle.settings.proofs.super_opts.reduce_dim.Reads as reduce-dim-reads
 use Rattle.settings.proofs.Known.{told-known, tested-known, checked-known, packed-known, sized-known}
 
 pub from-opt-unique : (κs : Lfts 0) (x : Dens κs from-opt-kinds.ps) (r s : resT from-opt-kinds.r κs .Denot) (e f : AtExit (endedOf 0 from-opt-kinds.ps from-opt-kinds.r) κs) → from-opt-reads.Post κs x r e → from-opt-reads.Post κs x s f → r ≡ s
@@ -90,3 +92,6 @@ hex-word-unique κs x r s e f p q = p ∙ sym q
 
 pub line-end-unique : (κs : Lfts 1) (x : Dens κs line-end-kinds.ps) (r s : resT line-end-kinds.r κs .Denot) (e f : AtExit (endedOf 1 line-end-kinds.ps line-end-kinds.r) κs) → line-end-reads.Post κs x r e → line-end-reads.Post κs x s f → r ≡ s
 line-end-unique κs x r s e f p q = end-known p q
+
+pub reduce-dim-unique : (κs : Lfts 0) (x : Dens κs reduce-dim-kinds.ps) (r s : resT reduce-dim-kinds.r κs .Denot) (e f : AtExit (endedOf 0 reduce-dim-kinds.ps reduce-dim-kinds.r) κs) → reduce-dim-reads.Post κs x r e → reduce-dim-reads.Post κs x s f → r ≡ s
+reduce-dim-unique κs x r s e f p q = p ∙ sym q

@@ -306,7 +306,7 @@ fn levels_of(width: i32, height: i32) -> i32
     auto_levels(natural(width), natural(height)) as i32
 }
 
-fn reduce_dim(dim: u32, n: u32) -> u32
+pub fn reduce_dim(dim: u32, n: u32) -> u32
     ensures { λ r. ⌜ r ≡ reduced dim n ⌝ }
 {
     let mut d = dim;
