@@ -1,3 +1,18 @@
+-- What is proved of the definitions of specs/ and used by the proofs of the functions, in the order in which one leans on the other:
+--     Tests      `&&`, `||`, `not`
+--     Integers   an i32 by its bits
+--     Refusals   a row of refusals that gives none
+--     Levels     levels of a size
+--     Heights    sums of reduced heights, and that they fit
+--     Fields     the fields of a record fit i32
+--     Known      answers by their numbers
+--     Accepted   what acceptance says, and that it holds exactly of what the check returns
+--     Words      a packed word's fields, and records with one word
+--     Told       demand 3 as far as records go
+--     Lines      text put together
+--     Printed    what reading prints is short
+--     ByHand     document 01's table, computed
+--     Unique     one outcome for each public call
 pub mod Tests
 pub mod Integers
 pub mod Refusals

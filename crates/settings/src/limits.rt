@@ -1,4 +1,4 @@
-// The limits of document 01, each named once. specs/Limits.antt has the same numbers for the contracts.
+// The limits of document 01, each named once. specs/Limits.antt has the same numbers where a contract has them.
 
 // The largest width and height of a picture.
 pub const MOST_SIDE: i32 = 16384;
