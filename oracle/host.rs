@@ -52,3 +52,10 @@ pub(crate) fn half_plane(k: u8, plane: &[u8], width: usize) -> Vec<u8> {
     Interp { pitch: width, width, height: plane.len() / width }.vertical(&mut canvas, plane.len(), 0, kernel(k));
     frame.split_off(plane.len())
 }
+
+/// Offset, width and height of each level, and where the last one ends.
+pub(crate) fn layout(r: &SuperOpts, pitch: usize, shifts: (u32, u32)) -> (Vec<(usize, usize, usize)>, usize) {
+    let regions = level_regions(pitch, r.width as usize, r.height as usize, shifts, r);
+    let end = written_end(&regions, pitch, r);
+    (regions.iter().map(|g| (g.offset, g.width, g.height)).collect(), end)
+}

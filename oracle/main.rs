@@ -4,6 +4,8 @@
 //!     oracle settings                     the Rust's answers to such cases, from standard input
 //!     oracle rows-cases SEED PASSES       cases for `replay_rows`
 //!     oracle rows                         the Rust's answers to such cases, from standard input
+//!     oracle layout-cases SEED COUNT      cases for `replay_layout`, a line each
+//!     oracle layout                       the Rust's answers to such cases, from standard input
 //!     oracle words-cases SEED COUNT       words of accepted records, and damaged ones
 //!     oracle words-all                    every word of sides 1 to 24, and its neighbour
 //!     oracle words-packed                 what document 01 prints for each word that settings cases, from standard input, pack to
@@ -26,6 +28,7 @@ mod analyse {
     }
 }
 
+mod layout;
 mod random;
 mod rows;
 mod settings;
@@ -39,6 +42,8 @@ fn main() {
         Some("settings") => settings::answers(),
         Some("rows-cases") => rows::cases(number(1), number(2)),
         Some("rows") => rows::answers(),
+        Some("layout-cases") => layout::cases(number(1), number(2)),
+        Some("layout") => layout::answers(),
         Some("words-cases") => words::cases(number(1), number(2)),
         Some("words-all") => words::all(),
         Some("words-packed") => words::packed(),
@@ -48,6 +53,6 @@ fn main() {
 }
 
 fn usage() -> ! {
-    eprintln!("usage: oracle SUBJECT-cases SEED COUNT | oracle words-all | oracle words-packed | oracle SUBJECT; SUBJECT: settings, rows, words");
+    eprintln!("usage: oracle SUBJECT-cases SEED COUNT | oracle words-all | oracle words-packed | oracle SUBJECT; SUBJECT: settings, rows, layout, words");
     std::process::exit(2)
 }

@@ -19,7 +19,7 @@ pub fn words_of(r: &SuperOpts) -> [u32; 10] {
     ]
 }
 
-fn print(out: &mut impl Write, words: &[u32]) {
+pub fn print(out: &mut impl Write, words: &[u32]) {
     let text: Vec<String> = words.iter().map(|w| format!("{w:08x}")).collect();
     writeln!(out, "{}", text.join(" ")).unwrap();
 }
@@ -52,7 +52,7 @@ pub fn check(has: u32, w: &[u32]) -> Result<SuperOpts, u32> {
 }
 
 /// A record is accepted if the check returns it for its own settings and size.
-fn accept(w: &[u32]) -> Result<SuperOpts, u32> {
+pub fn accept(w: &[u32]) -> Result<SuperOpts, u32> {
     match check(127, w) {
         Ok(r) if words_of(&r)[..] == *w => Ok(r),
         _ => Err(6),

@@ -2,17 +2,16 @@
 // A line is words of 8 hexadecimal digits (an integer as two's complement), parted by single spaces.
 // In: which settings are given (bit 0 pel, 1 gpu, 2 down, 3 up, 4 full, 5 rc, 6 lean), then pel gpu down up full rc lean levels width height. Bit 8: the ten are a record, to be tested as it stands.
 // Out: the number of the check (of a record: 0 or 6), the ten values of the record, the number and the two halves of its word, the number and value of its super height, and those of its super width.
-mod line;
 
 ghost use Prim.Native.Nat.{_<_};
+use hex_lines::bool_at;
+use hex_lines::int_at;
+use hex_lines::put_bool;
+use hex_lines::put_int;
+use hex_lines::put_word;
+use hex_lines::word_at;
 use libc::STDIN_FILENO;
 use libc::STDOUT_FILENO;
-use line::bool_at;
-use line::int_at;
-use line::put_bool;
-use line::put_int;
-use line::put_word;
-use line::word_at;
 use settings::refusal::Refusal;
 use settings::super_opts::Checked;
 use settings::super_opts::OptBool;

@@ -1,9 +1,8 @@
 -- `word_at` meets its contract. Assumes nothing.
-use borrow.Author.Needs.{needs}
 use Prim.Native.Nat.{_-_, _≤_}
 use native.Mathlib.Omega.{arith}
-use Rattle.replay_settings.proofs.line.word_at.Statement.{statement}
-use Rattle.replay_settings.proofs.line.word_at.Tie as tie
+use Rattle.hex_lines.proofs.word_at.Statement.{statement}
+use Rattle.hex_lines.proofs.word_at.Tie as tie
 
 abbrev Inv-loop : tie.InvT-loop
 Inv-loop case k v₀ i₀ v i = i ≤ 8
@@ -23,11 +22,11 @@ mul-digit c = omega arith
 add-digit : tie.Need-add-digit Inv-loop μ-loop
 add-digit c = omega arith
 
-element-copy-out-digit : tie.Need-element-copy-out-digit Inv-loop μ-loop
-element-copy-out-digit c = omega arith
+shared-slice-read-digit : tie.Need-shared-slice-read-digit Inv-loop μ-loop
+shared-slice-read-digit c = omega arith
 
 digit-requires : tie.Need-digit-requires Inv-loop μ-loop
-digit-requires c κs = search needs
+digit-requires c κs = tt
 
 add-v : tie.Need-add-v Inv-loop μ-loop
 add-v c = omega arith
@@ -42,7 +41,7 @@ loop-again : tie.Need-loop-again Inv-loop μ-loop
 loop-again c = omega arith
 
 returns : tie.Need-returns Inv-loop μ-loop
-returns c = search needs
+returns c = tt
 
 pub word-at-spec : {M : Type 1} → statement M
 word-at-spec =
@@ -54,7 +53,7 @@ word-at-spec =
     mul-v
     mul-digit
     add-digit
-    element-copy-out-digit
+    shared-slice-read-digit
     digit-requires
     add-v
     add-i

@@ -1,12 +1,13 @@
 -- `put_word` meets its contract. Assumes nothing.
-use borrow.Author.Needs.{needs}
+use mathlib.Core.Path.{_≡_}
 use Prim.Native.Nat.{_-_, _≤_}
 use native.Mathlib.Omega.{arith}
-use Rattle.replay_settings.proofs.line.put_word.Statement.{statement}
-use Rattle.replay_settings.proofs.line.put_word.Tie as tie
+use lib.ListN.{length, length-set}
+use Rattle.hex_lines.proofs.put_word.Statement.{statement}
+use Rattle.hex_lines.proofs.put_word.Tie as tie
 
 abbrev Inv-loop : tie.InvT-loop
-Inv-loop out₀ k word v₀ i₀ out v i = i ≤ 8
+Inv-loop out₀ k word v₀ i₀ out v i = (i ≤ 8) × (length out ≡ length out₀)
 
 abbrev μ-loop : tie.MeasureT-loop
 μ-loop out₀ k word v₀ i₀ out v i = 8 - i
@@ -29,8 +30,8 @@ add-out c = omega arith
 sub-out : tie.Need-sub-out Inv-loop μ-loop
 sub-out c = omega arith
 
-element-write-out : tie.Need-element-write-out Inv-loop μ-loop
-element-write-out c = omega arith
+slice-write-out : tie.Need-slice-write-out Inv-loop μ-loop
+slice-write-out c = omega arith
 
 add-i : tie.Need-add-i Inv-loop μ-loop
 add-i c = omega arith
@@ -39,10 +40,13 @@ loop-less : tie.Need-loop-less Inv-loop μ-loop
 loop-less c = omega arith
 
 loop-again : tie.Need-loop-again Inv-loop μ-loop
-loop-again c = omega arith
+loop-again c = simp length-set (omega arith)
+
+same-length : tie.Need-same-length Inv-loop μ-loop
+same-length c = c .before .loop .inv .1
 
 returns : tie.Need-returns Inv-loop μ-loop
-returns c = search needs
+returns c = tt
 
 pub put-word-spec : {M : Type 1} → statement M
 put-word-spec =
@@ -56,8 +60,9 @@ put-word-spec =
     mul-out
     add-out
     sub-out
-    element-write-out
+    slice-write-out
     add-i
     loop-less
     loop-again
+    same-length
     returns)
