@@ -1,0 +1,43 @@
+-- Document 01's number and value: of each call, and of each answer.
+use Prim.Native.Nat.{ℕ}
+use mathlib.Core.List.{List}
+use Rattle.settings.specs.Limits.{mostLevels}
+use Rattle.settings.specs.Answers.{Answer, answer, complete, number, tested}
+use Rattle.filters.specs.Row.{tab}
+use Rattle.builder.specs.declared.layout.Layout.{Layout}
+use Rattle.builder.specs.declared.layout.Region.{Region}
+use Rattle.builder.specs.declared.layout.Laid.{Laid}
+use Rattle.builder.specs.declared.layout.Ended.{Ended}
+use Rattle.builder.specs.declared.layout.Ended.the-variants.{End, Refused as EndRefused}
+use Rattle.builder.specs.Layout.{levelsOf, regionOr, noRegion, writtenEnd}
+use Rattle.builder.specs.Numbers.{layoutNo}
+
+-- the regions of the levels, in columns
+pub record Columns : Type 0 where
+  pub count : ℕ
+  pub offsets : List ℕ
+  pub widths : List ℕ
+  pub heights : List ℕ
+
+abbrev pub columns : ℕ → (ℕ → Region) → Columns
+columns n at =
+    record {
+      count = n;
+      offsets = tab (λ l. at l .offset) mostLevels;
+      widths = tab (λ l. at l .width) mostLevels;
+      heights = tab (λ l. at l .height) mostLevels;
+    }
+
+-- "a refused .. end or layout zeros"
+abbrev pub layoutAnswer : Layout → Answer Columns
+layoutAnswer q = complete (layoutNo q) (columns (levelsOf q) (regionOr q)) (columns 0 (λ l. noRegion))
+
+abbrev pub endAnswer : Layout → Answer ℕ
+endAnswer q = complete (layoutNo q) (writtenEnd q) 0
+
+abbrev pub laid : Laid → Answer Columns
+laid a = answer (tested (a .tested)) (record { count = a .count; offsets = a .offsets; widths = a .widths; heights = a .heights })
+
+abbrev pub ended : Ended → Answer ℕ
+ended (End n) = answer 0 n
+ended (EndRefused f) = answer (number f) 0

@@ -1,0 +1,8 @@
+-- Document 01, "Settings and sizes" and "Numbers a call can give" for a plane of a frame, as definitions. In the order to read them:
+--     Layout     a plane's levels, and where they lie
+--     Numbers    the numbers that a call refuses with
+--     Answers    the number and value of each call, and of each answer
+-- What is proved of these is in proofs/.
+pub mod Layout
+pub mod Numbers
+pub mod Answers

@@ -1,0 +1,5 @@
+// A plane's levels in a frame: open-svpflow's super_build.rs.
+//     layout    the regions of a plane's levels, and where they end
+//     levels    the numbers of one level
+pub mod layout;
+mod levels;
