@@ -1,0 +1,234 @@
+-- Laws of the canvas: what is read of two lists one after the other, and what is stored in them; then `steps`. Assumes nothing.
+use mathlib.Core.Path.{_≡_, refl, sym, ap, _∙_, subst}
+use mathlib.Core.List.{List, [], _++_, append-assoc, append-nil}
+use mathlib.Core.Logic.{_⊎_, ⊎-elim}
+use Prim.Native.Nat.{ℕ, _+_, _*_, _-_, _≤_, _<_}
+use native.Mathlib.Nat.{mul-le-mul-right, add-mul, one-mul}
+use native.Mathlib.Numerals.{add-one, add-one-le}
+use native.Mathlib.Omega.{arith}
+use lib.ListN.{length, getD, take, drop, replicate, length-append, length-take, length-drop, length-replicate, getD-replicate, take-append-drop, drop-of-length-le, List·getD-append, List·getD-eq-default}
+use lib.Seq.{take-at, drop-at, take-all, getD-take, getD-drop, getD-append-add, length-take-le, take-append-le, drop-append-le, take-append-add, drop-append-add}
+use Rattle.filters.proofs.Tests.{below-or}
+use Rattle.filters.proofs.Tables.{tab-length, tab-at, is-tab}
+use Rattle.builder.specs.Canvas.{fetch, put, steps}
+
+second-at : (a b : List ℕ) (i : ℕ) → length a ≤ i → getD (a ++ b) i 0 ≡ getD b (i - length a) 0
+second-at a b i h =
+    let e : i ≡ length a + (i - length a) = omega arith in
+    ap (λ (k : ℕ). getD (a ++ b) k 0) e ∙ getD-append-add a b (i - length a) 0
+
+-- ---- fetch
+pub fetch-length : (c : List ℕ) (at n : ℕ) → length (fetch c at n) ≡ n
+unfolding fetch
+fetch-length c at n = tab-length _ n
+
+pub fetch-at : (c : List ℕ) (at n i : ℕ) → i < n → getD (fetch c at n) i 0 ≡ getD c (at + i) 0
+unfolding fetch
+fetch-at c at n i h = tab-at _ n i h ∙ getD-drop at c i 0
+
+pub is-fetch : (l c : List ℕ) (at n : ℕ) → length l ≡ n → ((i : ℕ) → i < n → getD l i 0 ≡ getD c (at + i) 0) → l ≡ fetch c at n
+unfolding fetch
+is-fetch l c at n e same = is-tab l (λ i. getD (drop at c) i 0) n e (λ i h. same i h ∙ sym (getD-drop at c i 0))
+
+-- a part of the list
+pub fetch-part : (c : List ℕ) (at n : ℕ) → at + n ≤ length c → take n (drop at c) ≡ fetch c at n
+fetch-part c at n fits = is-fetch (take n (drop at c)) c at n (length-take n (drop at c) ∙ omega (arith, length-drop at c)) (λ i h. getD-take n (drop at c) i 0 h ∙ getD-drop at c i 0)
+
+pub fetch-past : (c : List ℕ) (at n : ℕ) → length c ≤ at → replicate n 0 ≡ fetch c at n
+fetch-past c at n past = is-fetch (replicate n 0) c at n (length-replicate n 0) (λ i h. getD-replicate n i 0 0 h ∙ sym (List·getD-eq-default c 0 (omega arith)))
+
+-- two runs, one after the other
+pub fetch-two : (c : List ℕ) (at m n : ℕ) → fetch c at m ++ fetch c (at + m) n ≡ fetch c at (m + n)
+fetch-two c at m n =
+    let a = fetch c at m in
+    let b = fetch c (at + m) n in
+    let la = fetch-length c at m in
+    is-fetch (a ++ b) c at (m + n) (length-append a b ∙ omega (arith, la, fetch-length c (at + m) n))
+    (λ i h.
+    ⊎-elim
+    (λ (lt : i < m). List·getD-append a b 0 i (omega (arith, la)) ∙ fetch-at c at m i lt)
+    (λ (le : m ≤ i).
+    let back : at + m + (i - m) ≡ at + i = omega arith in
+    second-at a b i (omega (arith, la)) ∙ ap (λ (k : ℕ). getD b (i - k) 0) la ∙ fetch-at c (at + m) n (i - m) (omega arith) ∙ ap (λ (k : ℕ). getD c k 0) back)
+    (below-or i m))
+
+-- ---- of two lists
+pub fetch-left : (F S : List ℕ) (at n : ℕ) → at + n ≤ length F → fetch F at n ≡ fetch (F ++ S) at n
+fetch-left F S at n fits = is-fetch (fetch F at n) (F ++ S) at n (fetch-length F at n) (λ i h. fetch-at F at n i h ∙ sym (List·getD-append F S 0 (at + i) (omega arith)))
+
+pub fetch-right : (F S : List ℕ) (at n : ℕ) → length F ≤ at → fetch S (at - length F) n ≡ fetch (F ++ S) at n
+fetch-right F S at n past =
+    is-fetch (fetch S (at - length F) n) (F ++ S) at n (fetch-length S (at - length F) n)
+    (λ i h.
+    let back : at - length F + i ≡ at + i - length F = omega arith in
+    fetch-at S (at - length F) n i h ∙ ap (λ (k : ℕ). getD S k 0) back ∙ sym (second-at F S (at + i) (omega arith)))
+
+-- a run of n bytes that leaves F after k of them
+module _ (F S : List ℕ) (at k n : ℕ) (seam : at + k ≡ length F) (long : k ≤ n) where
+  pub fetch-over : take k (drop at F) ++ fetch S 0 (n - k) ≡ fetch (F ++ S) at n
+  fetch-over =
+      let first = fetch-part F at k (omega arith) ∙ fetch-left F S at k (omega arith) in
+      let zero' : at + k - length F ≡ 0 = omega arith in
+      let second = ap (λ (j : ℕ). fetch S j (n - k)) (sym zero') ∙ fetch-right F S (at + k) (n - k) (omega arith) in
+      let whole : k + (n - k) ≡ n = omega arith in
+      ap (λ (l : List ℕ). l ++ fetch S 0 (n - k)) first
+      ∙ ap (λ (l : List ℕ). fetch (F ++ S) at k ++ l) second
+      ∙ fetch-two (F ++ S) at k (n - k)
+      ∙ ap (fetch (F ++ S) at) whole
+
+  pub fetch-end : take k (drop at F) ++ replicate (n - k) 0 ≡ fetch F at n
+  fetch-end =
+      let first = fetch-part F at k (omega arith) in
+      let whole : k + (n - k) ≡ n = omega arith in
+      ap (λ (l : List ℕ). l ++ replicate (n - k) 0) first
+      ∙ ap (λ (l : List ℕ). fetch F at k ++ l) (fetch-past F (at + k) (n - k) (omega arith))
+      ∙ fetch-two F at k (n - k)
+      ∙ ap (fetch F at) whole
+
+-- ---- a run that is cut in two: its front was lent and came back as l, then its rest and came back as m
+module _ (out l m : List ℕ) (k : ℕ) (fits : k ≤ length out) (front : length l ≡ k) where
+  back : List ℕ
+  back = l ++ drop k out
+
+  drop-front : drop k back ≡ drop k out
+  unfolding back
+  drop-front = drop-at l (drop k out) k front
+
+  back-length : length back ≡ length out
+  unfolding back
+  back-length = length-append l (drop k out) ∙ omega (arith, length-drop k out)
+
+  pub rest-length : length (take (length (l ++ drop k out) - k) (drop k (l ++ drop k out))) ≡ length out - k
+  unfolding back
+  rest-length = length-take (length back - k) (drop k back) ∙ omega (arith, back-length, ap length drop-front, length-drop k out)
+
+  pub two-parts : take k (l ++ drop k out) ++ (m ++ drop (length (l ++ drop k out) - k) (drop k (l ++ drop k out))) ≡ l ++ m
+  unfolding back
+  two-parts =
+      let none : length (drop k back) ≤ length back - k = omega (arith, back-length, ap length drop-front, length-drop k out) in
+      ap (λ (x : List ℕ). x ++ (m ++ drop (length back - k) (drop k back))) (take-at l (drop k out) k front)
+      ∙ ap (λ (x : List ℕ). l ++ (m ++ x)) (drop-of-length-le (drop k back) none)
+      ∙ ap (λ (x : List ℕ). l ++ x) (append-nil m)
+
+-- its front was copied from c
+module _ (c out l : List ℕ) (at k : ℕ) (seam : at + k ≡ length c) (fits : k ≤ length out) (copied : l ≡ take (length (take k out)) (take k (drop at c))) where
+  copy-length : length (take k (drop at c)) ≡ k
+  copy-length = length-take k (drop at c) ∙ omega (arith, length-drop at c)
+
+  copy-front : l ≡ take k (drop at c)
+  copy-front = copied ∙ take-all (length (take k out)) (take k (drop at c)) (omega (arith, copy-length, length-take-le k out fits))
+
+  copy-fits : length l ≡ k
+  copy-fits = ap length copy-front ∙ copy-length
+
+  pub read-cut : (m : List ℕ) → m ≡ replicate (length (take (length (l ++ drop k out) - k) (drop k (l ++ drop k out)))) 0 → take k (l ++ drop k out) ++ (m ++ drop (length (l ++ drop k out) - k) (drop k (l ++ drop k out))) ≡ fetch c at (length out)
+  read-cut m e =
+      two-parts out l m k fits copy-fits
+      ∙ ap (λ (x : List ℕ). l ++ x) (e ∙ ap (λ (j : ℕ). replicate j 0) (rest-length out l m k fits copy-fits))
+      ∙ ap (λ (x : List ℕ). x ++ replicate (length out - k) 0) copy-front
+      ∙ fetch-end c [] at k (length out) seam fits
+
+  pub fetch-cut : (S m : List ℕ) → m ≡ fetch S 0 (length (take (length (l ++ drop k out) - k) (drop k (l ++ drop k out)))) → take k (l ++ drop k out) ++ (m ++ drop (length (l ++ drop k out) - k) (drop k (l ++ drop k out))) ≡ fetch (c ++ S) at (length out)
+  fetch-cut S m e =
+      two-parts out l m k fits copy-fits
+      ∙ ap (λ (x : List ℕ). l ++ x) (e ∙ ap (fetch S 0) (rest-length out l m k fits copy-fits))
+      ∙ ap (λ (x : List ℕ). x ++ fetch S 0 (length out - k)) copy-front
+      ∙ fetch-over c S at k (length out) seam fits
+
+-- the whole run was copied from c, whose bytes from at on were lent
+pub copy-whole : (c out l : List ℕ) (at : ℕ) → at + length out ≤ length c → l ≡ take (length out) (take (length c - at) (drop at c)) → l ≡ fetch c at (length out)
+copy-whole c out l at fits e =
+    e ∙ ap (take (length out)) (take-all (length c - at) (drop at c) (omega (arith, length-drop at c))) ∙ fetch-part c at (length out) fits
+
+-- ---- put
+pub put-length : (c : List ℕ) (at : ℕ) (ys : List ℕ) → at + length ys ≤ length c → length (put c at ys) ≡ length c
+unfolding put
+put-length c at ys fits = simp (length-append, length-take, length-drop) (omega (arith, length-replicate {A = ℕ} (at - length c) 0))
+
+-- inside the list there is no gap
+pub put-plain : (c : List ℕ) (at : ℕ) (ys : List ℕ) → at ≤ length c → put c at ys ≡ take at c ++ (ys ++ drop (length ys) (drop at c))
+unfolding put
+put-plain c at ys le = let none : at - length c ≡ 0 = omega arith in ap (λ (k : ℕ). take at c ++ (replicate k 0 ++ (ys ++ drop (length ys) (drop at c)))) none
+
+-- a part that was lent and comes back as ys
+pub put-lent : (c ys : List ℕ) (at k : ℕ) → length ys ≡ k → at ≤ length c → take at c ++ (ys ++ drop k (drop at c)) ≡ put c at ys
+put-lent c ys at k e le = ap (λ (j : ℕ). take at c ++ (ys ++ drop j (drop at c))) (sym e) ∙ sym (put-plain c at ys le)
+
+-- the part from at on, as long as ys, was lent and came back as a copy of ys
+pub put-part : (c ys l : List ℕ) (at : ℕ) → at + length ys ≤ length c → l ≡ take (length (take (at + length ys - at) (drop at c))) ys → take at c ++ (l ++ drop (at + length ys - at) (drop at c)) ≡ put c at ys
+put-part c ys l at fits e =
+    let n : at + length ys - at ≡ length ys = omega arith in
+    let long : length ys ≤ length (take (at + length ys - at) (drop at c)) = omega (arith, length-take (at + length ys - at) (drop at c), length-drop at c) in
+    ap (λ (x : List ℕ). take at c ++ (x ++ drop (at + length ys - at) (drop at c))) (e ∙ take-all (length (take (at + length ys - at) (drop at c))) ys long)
+    ∙ put-lent c ys at (at + length ys - at) (sym n) (omega arith)
+
+-- ---- in two lists
+pub put-left : (F S ys : List ℕ) (at : ℕ) → at + length ys ≤ length F → put F at ys ++ S ≡ put (F ++ S) at ys
+put-left F S ys at fits =
+    let rest : length ys ≤ length (drop at F) = omega (arith, length-drop at F) in
+    ap (λ (l : List ℕ). l ++ S) (put-plain F at ys (omega arith))
+    ∙ append-assoc (take at F) (ys ++ drop (length ys) (drop at F)) S
+    ∙ ap (λ (l : List ℕ). take at F ++ l) (append-assoc ys (drop (length ys) (drop at F)) S)
+    ∙ sym
+    (put-plain (F ++ S) at ys (omega (arith, length-append F S))
+    ∙ rw (take-append-le at F S (omega arith), drop-append-le at F S (omega arith), drop-append-le (length ys) (drop at F) S rest))
+
+pub put-right : (F S ys : List ℕ) (j : ℕ) → j ≤ length S → F ++ put S j ys ≡ put (F ++ S) (length F + j) ys
+put-right F S ys j le =
+    ap (λ (l : List ℕ). F ++ l) (put-plain S j ys le)
+    ∙ sym (append-assoc F (take j S) (ys ++ drop (length ys) (drop j S)))
+    ∙ sym (put-plain (F ++ S) (length F + j) ys (omega (arith, length-append F S)) ∙ rw (take-append-add F S j, drop-append-add F S j))
+
+-- ys reaches over the end of F by the bytes from k on
+pub put-over : (F S ys : List ℕ) (at k : ℕ) → at + k ≡ length F → k ≤ length ys → put F at (take k ys) ++ put S 0 (drop k ys) ≡ put (F ++ S) at ys
+put-over F S ys at k seam long =
+    let la : length (drop at F) ≡ k = length-drop at F ∙ omega arith in
+    let lk : length (take k ys) ≡ k = length-take-le k ys long in
+    let all : length (drop at F) ≤ length (take k ys) = omega (arith, la, lk) in
+    let ld : length ys ≡ length (drop at F) + length (drop k ys) = omega (arith, la, length-drop k ys) in
+    let b = drop k ys ++ drop (length (drop k ys)) S in
+    ap (λ (l : List ℕ). l ++ put S 0 (drop k ys)) (put-plain F at (take k ys) (omega arith))
+    ∙ ap (λ (l : List ℕ). (take at F ++ (take k ys ++ drop (length (take k ys)) (drop at F))) ++ l) (put-plain S 0 (drop k ys) (omega arith))
+    ∙ ap (λ (l : List ℕ). (take at F ++ l) ++ b) (ap (λ (l : List ℕ). take k ys ++ l) (drop-of-length-le (drop at F) all) ∙ append-nil (take k ys))
+    ∙ append-assoc (take at F) (take k ys) b
+    ∙ ap (λ (l : List ℕ). take at F ++ l) (sym (append-assoc (take k ys) (drop k ys) (drop (length (drop k ys)) S)))
+    ∙ ap (λ (l : List ℕ). take at F ++ (l ++ drop (length (drop k ys)) S)) (take-append-drop k ys)
+    ∙ ap (λ (l : List ℕ). take at F ++ (ys ++ l)) (sym (drop-append-add (drop at F) S (length (drop k ys))))
+    ∙ ap (λ (m : ℕ). take at F ++ (ys ++ drop m (drop at F ++ S))) (sym ld)
+    ∙ sym
+    (put-plain (F ++ S) at ys (omega (arith, length-append F S))
+    ∙ rw (take-append-le at F S (omega arith), drop-append-le at F S (omega arith)))
+
+-- the same, where ys was cut and its rest lent
+pub store-cut : (F S ys l m : List ℕ) (at : ℕ) → at ≤ length F → length F - at ≤ length ys → l ≡ put F at (take (length F - at) ys) → m ≡ put S 0 (take (length ys - (length F - at)) (drop (length F - at) ys)) → l ++ m ≡ put (F ++ S) at ys
+store-cut F S ys l m at low long e f =
+    let k = length F - at in
+    ap (λ (x : List ℕ). x ++ m) e
+    ∙ ap (λ (x : List ℕ). put F at (take k ys) ++ x) (f ∙ ap (put S 0) (take-all (length ys - k) (drop k ys) (omega (arith, length-drop k ys))))
+    ∙ put-over F S ys at k (omega arith) long
+
+-- ---- rows
+-- row y of h rows that are p apart ends within them
+pub row-in : (y h p : ℕ) → y < h → y * p + p ≤ h * p
+row-in y h p lt = subst (λ (k : ℕ). k ≤ h * p) (add-mul y 1 p ∙ ap (λ (k : ℕ). y * p + k) (one-mul p)) (mul-le-mul-right p (add-one-le lt))
+
+pub steps-next : (step : ℕ → List ℕ → List ℕ) (n : ℕ) (c : List ℕ) → steps step (n + 1) c ≡ step n (steps step n c)
+unfolding steps
+steps-next step n c = rw (add-one n)
+
+-- what a loop over rows knows at its head
+pub record Walked (step : ℕ → List ℕ → List ℕ) (c₀ c : List ℕ) (h y : ℕ) : Type 0 where
+  pub most : y ≤ h
+  pub same : length c ≡ length c₀
+  pub is : c ≡ steps step y c₀
+
+pub walked-none : {step : ℕ → List ℕ → List ℕ} {c₀ : List ℕ} {h : ℕ} → Walked step c₀ c₀ h 0
+unfolding steps
+walked-none = record { most = omega arith; same = refl; is = refl }
+
+pub walked-more : {step : ℕ → List ℕ → List ℕ} {c₀ c c' : List ℕ} {h y : ℕ} → Walked step c₀ c h y → y < h → length c' ≡ length c → c' ≡ step y c → Walked step c₀ c' h (y + 1)
+walked-more {step} {c₀} {c} {c'} {h} {y} w lt len e =
+    record { most = omega arith; same = len ∙ w .same; is = e ∙ ap (step y) (w .is) ∙ sym (steps-next step y c₀) }
+
+pub walked-whole : {step : ℕ → List ℕ → List ℕ} {c₀ c : List ℕ} {h y : ℕ} → Walked step c₀ c h y → h ≤ y → c ≡ steps step h c₀
+walked-whole {step} {c₀} {c} {h} {y} w le = let e : y ≡ h = omega arith in w .is ∙ ap (λ (k : ℕ). steps step k c₀) e
