@@ -50,7 +50,7 @@ pub fn record(pel: u32, full: bool, width: u32, height: u32) -> [u32; 10] {
 pub fn cases(seed: u64, count: u64) {
     let mut rng = Random(seed);
     let mut out = BufWriter::new(std::io::stdout().lock());
-    let sides = if count == 0 { 12 } else { 64 };
+    let sides = if count == 0 { 6 } else { 64 };
     for width in 1..=sides {
         for height in 1..=sides {
             for (pel, full) in [(1, true), (2, true), (4, true), (1, false)] {
