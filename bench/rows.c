@@ -14,11 +14,13 @@ BOTH(means, uint8_t *, const uint8_t *, const uint8_t *)
 BOTH(copy, uint8_t *, const uint8_t *)
 BOTH(zero, uint8_t *)
 BOTH(vertical, uint32_t, uint8_t *, SIX)
-BOTH(halved, uint32_t, uint8_t *, const uint8_t *)
+extern void row_halved(uint32_t, uint8_t *, const uint8_t *, uint8_t *);
+extern void rust_halved(uint32_t, uint8_t *, const uint8_t *);
 BOTH(half_along, uint32_t, uint8_t *, const uint8_t *)
 BOTH(half_down, uint32_t, uint8_t *, SIX)
 
 static row in[6], out;
+static uint8_t split[N + 2];
 
 static void run(int ours, const char *f, uint32_t k) {
 #define CALL(name, ...) if (!strcmp(f, #name)) { if (ours) row_##name(__VA_ARGS__); else rust_##name(__VA_ARGS__); return; }
@@ -26,7 +28,7 @@ static void run(int ours, const char *f, uint32_t k) {
     CALL(copy, out, in[0])
     CALL(zero, out)
     CALL(vertical, k, out, in[0], in[1], in[2], in[3], in[4], in[5])
-    CALL(halved, k, out, in[0])
+    if (!strcmp(f, "halved")) { if (ours) row_halved(k, out, in[0], split); else rust_halved(k, out, in[0]); return; }
     CALL(half_along, k, out, in[0])
     CALL(half_down, k, out, in[0], in[1], in[2], in[3], in[4], in[5])
     fprintf(stderr, "no such function: %s\n", f);

@@ -51,8 +51,13 @@ pub extern "C" fn row_vertical(
 }
 
 #[no_mangle]
-pub extern "C" fn row_halved(k: u32, out: &mut [u8; 960], src: &[u8; 1920]) {
-    filter(k).reduce_row(out, src);
+pub extern "C" fn row_halved(
+    k: u32,
+    out: &mut [u8; 960],
+    src: &[u8; 1920],
+    split: &mut [u8; 1922],
+) {
+    filter(k).reduce_row(out, src, split);
 }
 
 #[no_mangle]

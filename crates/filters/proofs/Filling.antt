@@ -1,5 +1,5 @@
 -- A loop that writes out[i] = f i from the front: what it knows at its head, one store more, and its end. Assumes nothing.
-use mathlib.Core.Path.{_≡_, refl, sym, ap, _∙_}
+use mathlib.Core.Path.{_≡_, sym, ap, _∙_}
 use mathlib.Core.List.{List}
 use mathlib.Core.Logic.{⊎-elim}
 use Prim.Native.Nat.{ℕ, _+_, _≤_, _<_}
@@ -30,9 +30,6 @@ filled-more {f} {out} {n} {i} {v} h lt e =
           (λ (less : j < i). getD-set-other out i j v 0 (λ eq. omega arith) ∙ h .done j less)
           (eq-or-lt-of-le (le-of-suc-le-suc (rw add-one at l)));
     }
-
-pub filled-one : {f : ℕ → ℕ} {v : ℕ} (out : List ℕ) → 0 < length out → v ≡ f 0 → Filled f (set out 0 v) (length out) 1
-filled-one out some e = filled-more {out = out} (filled-none refl) some e
 
 pub filled-whole : {f : ℕ → ℕ} {out : List ℕ} {n i : ℕ} → Filled f out n i → n ≤ i → out ≡ tab f n
 filled-whole {f} {out} {n} {i} h le = is-tab out f n (h .long) (λ j lt. h .done j (omega arith))

@@ -1,17 +1,20 @@
--- A row of pairs halved: byte 0 replaced by output 0, two pairs that are carried along the row, and an output from them. Assumes nothing.
+-- A row of pairs halved: byte 0 replaced by output 0, the row taken apart, the weights over its parts, and the places that are means. Assumes nothing.
 use mathlib.Core.Path.{_≡_, refl, sym, ap, _∙_}
-use mathlib.Core.Bool.{Bool, false, cond}
+use mathlib.Core.Bool.{Bool, true, false, cond, _&&_, _||_}
 use mathlib.Core.List.{List}
-use Prim.Native.Nat.{ℕ, _+_, _*_, _-_, _≤_, _<_}
+use mathlib.Core.Logic.{⊎-elim}
+use Prim.Native.Nat.{ℕ, zero, suc, _+_, _*_, _-_, _≤_, _<_}
 use native.Mathlib.Omega.{arith}
-use lib.ListN.{length, getD}
-use lib.Seq.{getD-set-same, getD-set-other}
-use borrow.Author.Tests.{ne-eqb, le-leb, lt-leb}
+use lib.Dec.{leb, eqb}
+use lib.ListN.{length, getD, set, drop, length-set, length-drop}
+use lib.Seq.{getD-set-same, getD-set-other, getD-drop}
+use borrow.Author.Tests.{ne-eqb, le-leb, lt-leb, leb-false}
 use Rattle.filters.specs.declared.halving.ReduceFilter.{ReduceFilter}
 use Rattle.filters.specs.declared.halving.ReduceFilter.the-variants.{Average, Bilinear, Quadratic, Cubic}
-use Rattle.filters.specs.Row.{Widened, meanOf, around}
-use Rattle.filters.specs.Halve.{lastIsMean, isEdge, weigh, headed, horizontalAt}
-use Rattle.filters.proofs.Tests.{and-no, and-yes}
+use Rattle.filters.specs.Row.{Reach, meanOf, sixAt, sixes, around}
+use Rattle.filters.specs.Halve.{lastIsMean, isEdge, weigh, Apart, weighedApart, edgedAt, edged, headed, horizontalAt, horizontalRow}
+use Rattle.filters.proofs.Tests.{below-or, and-no, or-yes}
+use Rattle.filters.proofs.Tables.{is-tab, tab-at, tab-ext}
 
 headed-first : (v : List ℕ) → 0 < length v → meanOf (getD v 0 0) (getD v 1 0) ≡ getD (headed v) 0 0
 unfolding headed
@@ -21,81 +24,158 @@ headed-later : (v : List ℕ) (j : ℕ) → 0 < j → getD v j 0 ≡ getD (heade
 unfolding headed
 headed-later v j h = sym (getD-set-other v 0 j (meanOf (getD v 0 0) (getD v 1 0)) 0 (λ e. omega arith))
 
-no-edge : (f : ReduceFilter) (i n : ℕ) → 0 < i → i + 1 < n → isEdge f i n ≡ false
-no-edge f i n more lt = rw (ne-eqb i 0 (λ e. omega arith), lt-leb n (i + 1) lt) (and-no (lastIsMean f))
+at : (l : List ℕ) {i j : ℕ} → i ≡ j → getD l i 0 ≡ getD l j 0
+at l e = ap (λ (k : ℕ). getD l k 0) e
 
-edge-last : (f : ReduceFilter) (i n : ℕ) → 0 < i → i + 1 ≡ n → isEdge f i n ≡ lastIsMean f
-edge-last f i n more e = rw (ne-eqb i 0 (λ z. omega arith), le-leb n (i + 1) (omega arith)) (and-yes (lastIsMean f))
+-- ---- taken apart
+pub apart-none : {n : ℕ} {v s : List ℕ} → 2 * n + 2 ≤ length s → Apart n 0 v s
+apart-none fits = record { most = omega arith; room = fits; evens = λ j h. absurd (omega arith); odds = λ j h. absurd (omega arith) }
 
-pub first-output : (f : ReduceFilter) (n : ℕ) (v : List ℕ) → meanOf (getD v 0 0) (getD v 1 0) ≡ horizontalAt f n v 0
-unfolding horizontalAt
-first-output f n v = refl
+module _ {n i x y : ℕ} {v s : List ℕ} (h : Apart n i v s) (lt : i < n) (even : x ≡ getD v (2 * i) 0) (odd : y ≡ getD v (2 * i + 1) 0) where
+  next : List ℕ
+  next = set (set s (i + 1) x) (n + (i + 1)) y
 
--- the pair of output i and the one before it
-pub record Window (v : List ℕ) (i e0 o0 e1 o1 : ℕ) : Type 0 where
-  pub at0 : e0 ≡ getD (headed v) (2 * i - 2) 0
-  pub at1 : o0 ≡ getD (headed v) (2 * i - 1) 0
-  pub at2 : e1 ≡ getD (headed v) (2 * i) 0
-  pub at3 : o1 ≡ getD (headed v) (2 * i + 1) 0
-  pub low0 : e0 ≤ 255
-  pub low1 : o0 ≤ 255
-  pub low2 : e1 ≤ 255
-  pub low3 : o1 ≤ 255
+  next-length : length next ≡ length s
+  unfolding next
+  next-length = simp length-set
 
-pub window-first : {v : List ℕ} {e0 o0 e1 o1 : ℕ} → 0 < length v → Widened (meanOf (getD v 0 0) (getD v 1 0)) e0 → Widened (getD v 1 0) o0 → Widened (getD v 2 0) e1 → Widened (getD v 3 0) o1 → Window v 1 e0 o0 e1 o1
-window-first {v} some b0 b1 b2 b3 =
+  next-even : getD next (i + 1) 0 ≡ getD v (2 * i) 0
+  unfolding next
+  next-even = getD-set-other (set s (i + 1) x) (n + (i + 1)) (i + 1) y 0 (λ e. omega arith) ∙ getD-set-same s (i + 1) x 0 (omega (arith, h .room)) ∙ even
+
+  next-odd : getD next (n + (i + 1)) 0 ≡ getD v (2 * i + 1) 0
+  unfolding next
+  next-odd = getD-set-same (set s (i + 1) x) (n + (i + 1)) y 0 (omega (arith, length-set s (i + 1) x, h .room)) ∙ odd
+
+  next-other : (k : ℕ) → (k ≡ i + 1 → ⊥) → (k ≡ n + (i + 1) → ⊥) → getD next k 0 ≡ getD s k 0
+  unfolding next
+  next-other k p q = getD-set-other (set s (i + 1) x) (n + (i + 1)) k y 0 q ∙ getD-set-other s (i + 1) k x 0 p
+
+  pub apart-more : Apart n (i + 1) v (set (set s (i + 1) x) (n + (i + 1)) y)
+  unfolding next
+  apart-more =
+      record {
+        most = omega arith;
+        room = omega (arith, next-length, h .room);
+        evens = λ j l.
+            ⊎-elim
+            (λ (less : j < i). next-other (j + 1) (λ e. omega arith) (λ e. omega arith) ∙ h .evens j less)
+            (λ (le : i ≤ j). let e : j ≡ i = omega arith in rw e next-even)
+            (below-or j i);
+        odds = λ j l.
+            ⊎-elim
+            (λ (less : j < i). next-other (n + (j + 1)) (λ e. omega arith) (λ e. omega arith) ∙ h .odds j less)
+            (λ (le : i ≤ j). let e : j ≡ i = omega arith in rw e next-odd)
+            (below-or j i);
+      }
+
+pub apart-headed : {n m : ℕ} {v s : List ℕ} → Apart n n v s → 0 < length v → m ≡ meanOf (getD v 0 0) (getD v 1 0) → Apart n n (headed v) (set s 1 m)
+apart-headed {n} {m} {v} {s} h some is =
     record {
-      at0 = b0 .is ∙ headed-first v some;
-      at1 = b1 .is ∙ headed-later v 1 (omega arith);
-      at2 = b2 .is ∙ headed-later v 2 (omega arith);
-      at3 = b3 .is ∙ headed-later v 3 (omega arith);
-      low0 = b0 .low;
-      low1 = b1 .low;
-      low2 = b2 .low;
-      low3 = b3 .low;
+      most = omega arith;
+      room = omega (arith, length-set s 1 m, h .room);
+      evens = λ j l.
+          ⊎-elim
+          (λ (later : 0 < j). getD-set-other s 1 (j + 1) m 0 (λ e. omega arith) ∙ h .evens j l ∙ headed-later v (2 * j) (omega arith))
+          (λ (first : j ≤ 0). let e : j ≡ 0 = omega arith in rw e (getD-set-same s 1 m 0 (omega (arith, h .room)) ∙ is ∙ headed-first v some))
+          (below-or 0 j);
+      odds = λ j l. getD-set-other s 1 (n + (j + 1)) m 0 (λ e. omega arith) ∙ h .odds j l ∙ headed-later v (2 * j + 1) (omega arith);
     }
 
-module _ {v : List ℕ} {i e0 o0 e1 o1 : ℕ} (w : Window v i e0 o0 e1 o1) where
-  module _ {e2 o2 : ℕ} (b2 : Widened (getD v (2 * i + 2) 0) e2) (b3 : Widened (getD v (2 * i + 2 + 1) 0) o2) where
-    at4 : e2 ≡ getD (headed v) (2 * i + 2) 0
-    at4 = b2 .is ∙ headed-later v (2 * i + 2) (omega arith)
+-- ---- the weights over the parts
+from-place : {n : ℕ} (t : ℕ) (s : List ℕ) {x : List ℕ} → t + n ≤ length s → x ≡ drop t s → n ≤ length x
+from-place t s fits e = rw (e, length-drop t s) (omega arith)
 
-    at5 : o2 ≡ getD (headed v) (2 * i + 3) 0
-    at5 = b3 .is ∙ headed-later v (2 * i + 2 + 1) (omega arith) ∙ ap (λ (k : ℕ). getD (headed v) k 0) (omega arith)
+pub parts-fit : {n : ℕ} {s m1 c0 p1 p2 p3 : List ℕ} → 2 * n + 2 ≤ length s → m1 ≡ drop n s → c0 ≡ drop 1 s → p1 ≡ drop (n + 1) s → p2 ≡ drop 2 s → p3 ≡ drop (n + 2) s → Reach n s m1 c0 p1 p2 p3
+parts-fit {n} {s} fits e1 e2 e3 e4 e5 =
+    record {
+      in-m2 = omega arith;
+      in-m1 = from-place n s (omega arith) e1;
+      in-c0 = from-place 1 s (omega arith) e2;
+      in-p1 = from-place (n + 1) s (omega arith) e3;
+      in-p2 = from-place 2 s (omega arith) e4;
+      in-p3 = from-place (n + 2) s (omega arith) e5;
+    }
 
-    pub window-next : Window v (i + 1) e1 o1 e2 o2
-    window-next =
-        let k0 : 2 * i ≡ 2 * (i + 1) - 2 = omega arith in
-        let k1 : 2 * i + 1 ≡ 2 * (i + 1) - 1 = omega arith in
-        let k2 : 2 * i + 2 ≡ 2 * (i + 1) = omega arith in
-        let k3 : 2 * i + 3 ≡ 2 * (i + 1) + 1 = omega arith in
-        record {
-          at0 = w .at2 ∙ ap (λ (k : ℕ). getD (headed v) k 0) k0;
-          at1 = w .at3 ∙ ap (λ (k : ℕ). getD (headed v) k 0) k1;
-          at2 = at4 ∙ ap (λ (k : ℕ). getD (headed v) k 0) k2;
-          at3 = at5 ∙ ap (λ (k : ℕ). getD (headed v) k 0) k3;
-          low0 = w .low2;
-          low1 = w .low3;
-          low2 = b2 .low;
-          low3 = b3 .low;
-        }
+module _ {n : ℕ} {w s : List ℕ} (h : Apart n n w s) (i : ℕ) (more : 0 < i) (lt : i < n) where
+  at-m2 : getD s i 0 ≡ getD w (2 * i - 2) 0
+  at-m2 = at s (omega arith) ∙ h .evens (i - 1) (omega arith) ∙ at w (omega arith)
 
-    weighed : (f : ReduceFilter) → weigh f e0 o0 e1 o1 e2 o2 ≡ around (weigh f) (headed v) (2 * i)
-    weighed f = rw (w .at0, w .at1, w .at2, w .at3, at4, at5)
+  at-m1 : getD (drop n s) i 0 ≡ getD w (2 * i - 1) 0
+  at-m1 = getD-drop n s i 0 ∙ at s (omega arith) ∙ h .odds (i - 1) (omega arith) ∙ at w (omega arith)
 
-    pub inner-output : (f : ReduceFilter) (n : ℕ) → 0 < i → i + 1 < n → weigh f e0 o0 e1 o1 e2 o2 ≡ horizontalAt f n v i
-    unfolding horizontalAt
-    inner-output f n more lt = weighed f ∙ ap (λ (t : Bool). cond t (meanOf (getD v (2 * i) 0) (getD v (2 * i + 1) 0)) (around (weigh f) (headed v) (2 * i))) (sym (no-edge f i n more lt))
+  at-c0 : getD (drop 1 s) i 0 ≡ getD w (2 * i) 0
+  at-c0 = getD-drop 1 s i 0 ∙ at s (omega arith) ∙ h .evens i lt
 
-  last-mean : 0 < i → meanOf e1 o1 ≡ meanOf (getD v (2 * i) 0) (getD v (2 * i + 1) 0)
-  last-mean more = rw (headed-later v (2 * i) (omega arith), headed-later v (2 * i + 1) (omega arith), w .at2, w .at3)
+  at-p1 : getD (drop (n + 1) s) i 0 ≡ getD w (2 * i + 1) 0
+  at-p1 = getD-drop (n + 1) s i 0 ∙ at s (omega arith) ∙ h .odds i lt
 
-  last-by : (f : ReduceFilter) → 0 < i → cond (lastIsMean f) (meanOf e1 o1) (weigh f 0 o0 e1 o1 0 0) ≡ cond (lastIsMean f) (meanOf (getD v (2 * i) 0) (getD v (2 * i + 1) 0)) (around (weigh f) (headed v) (2 * i))
-  last-by Average more = rw (w .at1, w .at2, w .at3)
-  last-by Bilinear more = last-mean more
-  last-by Quadratic more = last-mean more
-  last-by Cubic more = last-mean more
+  at-p2 : i + 1 < n → getD (drop 2 s) i 0 ≡ getD w (2 * i + 2) 0
+  at-p2 l = getD-drop 2 s i 0 ∙ at s (omega arith) ∙ h .evens (i + 1) l ∙ at w (omega arith)
 
-  pub last-output : (f : ReduceFilter) (n : ℕ) → 0 < i → i + 1 ≡ n → cond (lastIsMean f) (meanOf e1 o1) (weigh f 0 o0 e1 o1 0 0) ≡ horizontalAt f n v i
-  unfolding horizontalAt
-  last-output f n more e = last-by f more ∙ ap (λ (t : Bool). cond t (meanOf (getD v (2 * i) 0) (getD v (2 * i + 1) 0)) (around (weigh f) (headed v) (2 * i))) (sym (edge-last f i n more e))
+  at-p3 : i + 1 < n → getD (drop (n + 2) s) i 0 ≡ getD w (2 * i + 3) 0
+  at-p3 l = getD-drop (n + 2) s i 0 ∙ at s (omega arith) ∙ h .odds (i + 1) l ∙ at w (omega arith)
+
+  six-taps : (f : ReduceFilter) → i + 1 < n → sixAt (weigh f) s (drop n s) (drop 1 s) (drop (n + 1) s) (drop 2 s) (drop (n + 2) s) i ≡ around (weigh f) w (2 * i)
+  six-taps f l = rw (at-m2, at-m1, at-c0, at-p1, at-p2 l, at-p3 l)
+
+  -- a filter that has no mean at the end reads nothing past the pair
+  taps : (f : ReduceFilter) → (lastIsMean f ≡ true → i + 1 < n) → sixAt (weigh f) s (drop n s) (drop 1 s) (drop (n + 1) s) (drop 2 s) (drop (n + 2) s) i ≡ around (weigh f) w (2 * i)
+  taps Average l = rw (at-m1, at-c0, at-p1)
+  taps Bilinear l = six-taps Bilinear (l refl)
+  taps Quadratic l = six-taps Quadratic (l refl)
+  taps Cubic l = six-taps Cubic (l refl)
+
+-- ---- edges
+or-right : (a b : Bool) → (a || b) ≡ false → b ≡ false
+or-right true b e = absurd (let z : _≡_ {A = ℕ} 0 1 = cc in omega arith)
+or-right false b e = e
+
+past-first : (f : ReduceFilter) (i n : ℕ) → isEdge f i n ≡ false → 0 < i
+past-first f zero n e = absurd (let z : _≡_ {A = ℕ} 0 1 = cc in omega arith)
+past-first f (suc i) n e = omega arith
+
+before-last : (f : ReduceFilter) (i n : ℕ) → isEdge f i n ≡ false → lastIsMean f ≡ true → i + 1 < n
+before-last f i n e m = leb-false n (i + 1) (rw m at (or-right (eqb i 0) (lastIsMean f && leb n (i + 1)) e))
+
+no-edge : (f : ReduceFilter) (i n : ℕ) → 0 < i → (lastIsMean f && leb n (i + 1)) ≡ false → isEdge f i n ≡ false
+no-edge f i n more e = rw (ne-eqb i 0 (λ z. omega arith)) e
+
+cond-else : (t : Bool) (a : ℕ) {b c : ℕ} → (t ≡ false → b ≡ c) → cond t a b ≡ cond t a c
+cond-else true a h = refl
+cond-else false a h = h refl
+
+-- the weights over the parts, with the means at the edges
+pub halved : (f : ReduceFilter) {n : ℕ} (v : List ℕ) {s o : List ℕ} → Apart n n (headed v) s → o ≡ weighedApart f n s → edged f n v o ≡ horizontalRow f n v
+unfolding edged edgedAt horizontalRow horizontalAt sixes
+halved f {n} v {s} {o} h is =
+    tab-ext (edgedAt f n v o) (horizontalAt f n v) n
+    (λ i lt.
+    cond-else (isEdge f i n) (meanOf (getD v (2 * i) 0) (getD v (2 * i + 1) 0))
+    (λ e. ap (λ (l : List ℕ). getD l i 0) is ∙ tab-at _ n i lt ∙ taps h i (past-first f i n e) lt f (before-last f i n e)))
+
+module _ (f : ReduceFilter) {n x : ℕ} (v o : List ℕ) (long : length o ≡ n) (some : 0 < n) (first : x ≡ meanOf (getD v 0 0) (getD v 1 0)) where
+  with-first : (i : ℕ) → (0 < i → isEdge f i n ≡ false) → getD (set o 0 x) i 0 ≡ edgedAt f n v o i
+  unfolding edgedAt
+  with-first i h =
+      ⊎-elim
+      (λ (later : 0 < i). getD-set-other o 0 i x 0 (λ e. omega arith) ∙ rw (h later))
+      (λ (z : i ≤ 0). let e : i ≡ 0 = omega arith in rw e (getD-set-same o 0 x 0 (omega arith) ∙ first))
+      (below-or 0 i)
+
+  pub edged-first : lastIsMean f ≡ false → set o 0 x ≡ edged f n v o
+  unfolding edged
+  edged-first m = is-tab (set o 0 x) (edgedAt f n v o) n (length-set o 0 x ∙ long) (λ i lt. with-first i (λ later. no-edge f i n later (rw m)))
+
+  pub edged-both : {y : ℕ} → lastIsMean f ≡ true → y ≡ meanOf (getD v (2 * (n - 1)) 0) (getD v (2 * (n - 1) + 1) 0) → set (set o 0 x) (n - 1) y ≡ edged f n v o
+  unfolding edged edgedAt
+  edged-both {y} m last =
+      is-tab (set (set o 0 x) (n - 1) y) (edgedAt f n v o) n (length-set (set o 0 x) (n - 1) y ∙ length-set o 0 x ∙ long)
+      (λ i lt.
+      ⊎-elim
+      (λ (less : i < n - 1). getD-set-other (set o 0 x) (n - 1) i y 0 (λ e. omega arith) ∙ with-first i (λ later. no-edge f i n later (rw (lt-leb n (i + 1) (omega arith)) (and-no (lastIsMean f)))))
+      (λ (le : n - 1 ≤ i).
+      let e : i ≡ n - 1 = omega arith in
+      let edge : isEdge f (n - 1) n ≡ true = rw (m, le-leb n (n - 1 + 1) (omega arith)) (or-yes (eqb (n - 1) 0)) in
+      rw (e, edge) (getD-set-same (set o 0 x) (n - 1) y 0 (omega (arith, length-set o 0 x)) ∙ last))
+      (below-or i (n - 1)))

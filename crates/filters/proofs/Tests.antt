@@ -18,10 +18,6 @@ pub and-no : (t : Bool) → (t && false) ≡ false
 and-no true = refl
 and-no false = refl
 
-pub and-yes : (t : Bool) → (t && true) ≡ t
-and-yes true = refl
-and-yes false = refl
-
 pub or-yes : (t : Bool) → (t || true) ≡ true
 or-yes true = refl
 or-yes false = refl

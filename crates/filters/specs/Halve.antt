@@ -1,15 +1,16 @@
 -- Document 01, "Halving": which filter, its weights and edges, a row from six rows, and a row of pairs halved.
-use Prim.Native.Nat.{ℕ, _+_, _*_, _/_}
+use mathlib.Core.Path.{_≡_}
+use Prim.Native.Nat.{ℕ, _+_, _*_, _/_, _≤_, _<_}
 use mathlib.Core.Bool.{Bool, true, false, cond, _&&_, _||_}
 use mathlib.Core.List.{List}
 use lib.Dec.{leb, eqb}
-use lib.ListN.{getD, set}
+use lib.ListN.{length, getD, set, drop}
 use lib.IntN.{ℤ, pos, negsuc}
 use Rattle.filters.specs.declared.halving.ReduceFilter.{ReduceFilter}
 use Rattle.filters.specs.declared.halving.ReduceFilter.the-variants.{Average, Bilinear, Quadratic, Cubic}
 use Rattle.filters.specs.declared.halving.Chosen.{Chosen}
 use Rattle.filters.specs.declared.halving.Chosen.the-variants.{Filter, NoFilter}
-use Rattle.filters.specs.Row.{Six, tab, meanOf, around}
+use Rattle.filters.specs.Row.{Six, tab, meanOf, sixes, around}
 
 -- "down 0 or 1 (average), 2 (bilinear), 3 (quadratic), 4 (cubic); any other value leaves later levels unwritten"
 abbrev pub chosenNat : ℕ → Chosen
@@ -55,6 +56,24 @@ isEdge f i n = eqb i 0 || (lastIsMean f && leb n (i + 1))
 -- "On the other columns of such rows it is (a + 5 r(-1) + 10(r(0) + r(1)) + 5b + c + 16) >> 5"
 abbrev pub restOf : Six
 restOf a m1 c0 p1 b c = (a + 5 * m1 + 10 * (c0 + p1) + 5 * b + c + 16) / 32
+
+-- the first k of n pairs of v taken apart: the even bytes stand from place 1 of s on, and the odd ones from place n + 1
+pub record Apart (n k : ℕ) (v s : List ℕ) : Type 0 where
+  pub most : k ≤ n
+  pub room : 2 * n + 2 ≤ length s
+  pub evens : (i : ℕ) → i < k → getD s (i + 1) 0 ≡ getD v (2 * i) 0
+  pub odds : (i : ℕ) → i < k → getD s (n + (i + 1)) 0 ≡ getD v (2 * i + 1) 0
+
+-- the weights at each place of n pairs taken apart
+abbrev pub weighedApart : ReduceFilter → ℕ → List ℕ → List ℕ
+weighedApart f n s = sixes (weigh f) n s (drop n s) (drop 1 s) (drop (n + 1) s) (drop 2 s) (drop (n + 2) s)
+
+-- the row o, with means of v's pairs at its edges
+unfoldable pub edgedAt : ReduceFilter → ℕ → List ℕ → List ℕ → ℕ → ℕ
+edgedAt f w v o x = cond (isEdge f x w) (meanOf (getD v (2 * x) 0) (getD v (2 * x + 1) 0)) (getD o x 0)
+
+unfoldable pub edged : ReduceFilter → ℕ → List ℕ → List ℕ → List ℕ
+edged f w v o = tab (edgedAt f w v o) w
 
 -- "with byte 0 of the row replaced by output 0"
 unfoldable pub headed : List ℕ → List ℕ

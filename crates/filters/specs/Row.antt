@@ -1,5 +1,4 @@
 -- Rows are lists of bytes, made by a rule at each place. Reading past a row gives 0.
-use mathlib.Core.Path.{_≡_}
 use Prim.Native.Nat.{ℕ, zero, suc, _+_, _-_, _/_, _≤_}
 use mathlib.Core.List.{List, [], _∷_, _++_}
 use lib.ListN.{length, getD}
@@ -8,11 +7,6 @@ use lib.ListN.{length, getD}
 unfoldable pub tab : (ℕ → ℕ) → ℕ → List ℕ
 tab f zero = []
 tab f (suc n) = tab f n ++ (f n ∷ [])
-
--- r is the byte x, in a wider type
-pub record Widened (x r : ℕ) : Type 0 where
-  pub is : r ≡ x
-  pub low : r ≤ 255
 
 -- six bytes, in a wider type
 pub record Low (m2 m1 c0 p1 p2 p3 : ℕ) : Type 0 where

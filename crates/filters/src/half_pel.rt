@@ -1,8 +1,9 @@
 use crate::rows::copy_row;
 use crate::rows::mean_row;
+use crate::rows::rest;
 ghost use mathlib.Core.Path.{_≡_};
 ghost use Prim.Native.Nat.{_-_, _≤_, _<_, min};
-ghost use lib.ListN.{length, drop};
+ghost use lib.ListN.{length};
 ghost use Rattle.filters.specs.Row.{Reach, sixes};
 ghost use Rattle.filters.specs.Refine.{upscale, leadOf, tailOf, halfPel, nextMeans, halfHorizontal, halfVertical};
 
@@ -198,11 +199,4 @@ fn mean_with_next(out: &mut [u8], row: &[u8])
     let last = n - 1;
     mean_row(&mut out[..last], row, rest(row, 1));
     out[last] = row[last];
-}
-
-fn rest(row: &[u8], at: usize) -> &[u8]
-    requires { ⌜ at ≤ length (now row) ⌝ }
-    ensures { λ r. ⌜ now r ≡ drop at (now (row .entry)) ⌝ }
-{
-    &row[at..]
 }

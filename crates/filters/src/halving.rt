@@ -1,10 +1,10 @@
 use crate::rows::mean;
+use crate::rows::rest;
 ghost use mathlib.Core.Path.{_≡_};
-ghost use mathlib.Core.Bool.{cond};
-ghost use Prim.Native.Nat.{_*_, _≤_, _<_};
+ghost use Prim.Native.Nat.{_+_, _*_, _≤_, _<_};
 ghost use lib.ListN.{length};
-ghost use Rattle.filters.specs.Row.{Widened, Low, Reach, meanOf, sixes};
-ghost use Rattle.filters.specs.Halve.{chosen, firstRow, lastRow, lastIsMean, isEdge, weigh, restOf, horizontalRow};
+ghost use Rattle.filters.specs.Row.{Low, Reach, sixes};
+ghost use Rattle.filters.specs.Halve.{chosen, firstRow, lastRow, lastIsMean, isEdge, weigh, restOf, Apart, weighedApart, edged, horizontalRow};
 
 pub enum ReduceFilter {
     Average,
@@ -94,12 +94,6 @@ impl Cubic {
     {
         ((m2 + 5 * (m1 + p2) + 10 * (c0 + p1) + p3 + Cubic::ROUND) >> 5) as u8
     }
-}
-
-fn wide(x: u8) -> u16
-    ensures { λ r. ⌜ Widened x r ⌝ }
-{
-    x as u16
 }
 
 impl ReduceFilter {
@@ -205,49 +199,60 @@ impl ReduceFilter {
         }
     }
 
-    // The last output of a row, from the odd byte before its pair, and its pair.
-    fn last_output(self, m1: u16, c0: u16, p1: u16) -> u8
-        requires { ⌜ Low 0 m1 c0 p1 0 0 ⌝ }
-        ensures { λ r. ⌜ r ≡ cond (lastIsMean self) (meanOf c0 p1) (weigh self 0 m1 c0 p1 0 0) ⌝ }
+    // The weights at every place of a row taken apart. Past either end of the row they see whatever stands there.
+    fn weigh_apart(self, out: &mut [u8], s: &[u8])
+        requires { ⌜ 2 * length (now out) + 2 ≤ length (now s) ⌝ }
+        ensures { λ r. ⌜ now (out .exit) ≡ weighedApart self (length (now (out .entry))) (now (s .entry)) ⌝ }
     {
-        if self.last_is_mean() {
-            return ((c0 + p1 + 1) >> 1) as u8;
-        }
-        self.weigh(0, m1, c0, p1, 0, 0)
+        let n = out.len();
+        self.vertical_filter(
+            out,
+            s,
+            rest(s, n),
+            rest(s, 1),
+            rest(s, n + 1),
+            rest(s, 2),
+            rest(s, n + 2),
+        );
     }
 
-    // A row of pairs, halved. Two pairs are carried along the row, and byte 0 of the first is output 0.
-    pub fn reduce_row(self, out: &mut [u8], src: &[u8])
-        requires { ⌜ 2 * length (now out) ≤ length (now src) ⌝ }
+    // The places of a halved row that are means of their pairs; the others stay.
+    fn put_means(self, out: &mut [u8], src: &[u8])
+        requires { ⌜ (0 < length (now out)) × (2 * length (now out) ≤ length (now src)) ⌝ }
+        ensures { λ r. ⌜ now (out .exit) ≡ edged self (length (now (out .entry))) (now (src .entry)) (now (out .entry)) ⌝ }
+    {
+        let last = out.len() - 1;
+        out[0] = mean(src[0], src[1]);
+        if self.last_is_mean() {
+            out[last] = mean(src[2 * last], src[2 * last + 1]);
+        }
+    }
+
+    // A row of pairs, halved. `split` is room to take it apart in, since the weights are quick over contiguous bytes. They run over the edges too, which are written again: without those a loop would leave the most places past whole vectors.
+    pub fn reduce_row(self, out: &mut [u8], src: &[u8], split: &mut [u8])
+        requires { ⌜ (2 * length (now out) ≤ length (now src)) × (2 * length (now out) + 2 ≤ length (now split)) ⌝ }
         ensures { λ r. ⌜ now (out .exit) ≡ horizontalRow self (length (now (out .entry))) (now (src .entry)) ⌝ }
     {
         let n = out.len();
         if n == 0 {
             return;
         }
-        let left = src[0];
-        let right = src[1];
-        let first = mean(left, right);
-        out[0] = first;
-        if n == 1 {
-            return;
-        }
-        let last = n - 1;
-        let mut e0 = wide(first);
-        let mut o0 = wide(right);
-        let mut e1 = wide(src[2]);
-        let mut o1 = wide(src[3]);
-        for i in 1..last {
-            let j = 2 * i + 2;
-            let e2 = wide(src[j]);
-            let o2 = wide(src[j + 1]);
-            out[i] = self.weigh(e0, o0, e1, o1, e2, o2);
-            e0 = e1;
-            o0 = o1;
-            e1 = e2;
-            o1 = o2;
-        }
-        out[last] = self.last_output(o0, e1, o1);
+        take_apart(split, src, n);
+        split[1] = mean(src[0], src[1]);
+        self.weigh_apart(out, split);
+        self.put_means(out, src);
+    }
+}
+
+// The even bytes of n pairs from place 1 on, and then the odd ones.
+fn take_apart(split: &mut [u8], src: &[u8], n: usize)
+    requires { ⌜ (2 * n ≤ length (now src)) × (2 * n + 2 ≤ length (now split)) ⌝ }
+    ensures { λ r. ⌜ Apart n n (now (src .entry)) (now (split .exit)) ⌝ }
+{
+    for i in 0..n {
+        let at = i + 1;
+        split[at] = src[2 * i];
+        split[n + at] = src[2 * i + 1];
     }
 }
 

@@ -1,6 +1,6 @@
 ghost use mathlib.Core.Path.{_≡_};
 ghost use Prim.Native.Nat.{_≤_};
-ghost use lib.ListN.{length, take, replicate};
+ghost use lib.ListN.{length, take, drop, replicate};
 ghost use Rattle.filters.specs.Row.{meanOf, meansOf};
 
 pub fn mean(a: u8, b: u8) -> u8
@@ -38,4 +38,12 @@ pub fn zero_row(out: &mut [u8])
     for i in 0..n {
         out[i] = 0;
     }
+}
+
+// A row from a place on.
+pub fn rest(row: &[u8], at: usize) -> &[u8]
+    requires { ⌜ at ≤ length (now row) ⌝ }
+    ensures { λ r. ⌜ now r ≡ drop at (now (row .entry)) ⌝ }
+{
+    &row[at..]
 }

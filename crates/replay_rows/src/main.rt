@@ -114,7 +114,7 @@ fn put(case: Case, out: &mut [u8], rows: &[u8])
         1 => copy_row(out, row(rows, 0, n)),
         2 => zero_row(out),
         3 => weigh(reduce_filter(case.filter), out, rows),
-        4 => reduce_filter(case.filter).reduce_row(out, rows),
+        4 => halve(reduce_filter(case.filter), out, rows),
         5 => rest(out, rows),
         6 => half_pel(case.filter).horizontal(out, row(rows, 0, n)),
         7 => down(case, out, rows),
@@ -160,6 +160,13 @@ fn weigh(f: ReduceFilter, out: &mut [u8], rows: &[u8])
         row(rows, 4, n),
         row(rows, 5, n),
     );
+}
+
+fn halve(f: ReduceFilter, out: &mut [u8], rows: &[u8])
+    requires { ⌜ (length (now out) ≤ 4096) × (2 * length (now out) ≤ length (now rows)) ⌝ }
+{
+    let mut split = [0u8; 8194];
+    f.reduce_row(out, rows, &mut split);
 }
 
 fn rest(out: &mut [u8], rows: &[u8])

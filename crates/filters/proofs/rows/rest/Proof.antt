@@ -5,10 +5,8 @@ use lib.Seq.{take-all}
 use native.Mathlib.Omega.{arith}
 use denote.Ref.{now}
 use borrow.Author.Needs.{needs}
-use Rattle.filters.proofs.half_pel.rest.Statement.{statement}
-use Rattle.filters.proofs.half_pel.rest.Tie as tie
-
--- `rest` meets its contract. Assumes nothing.
+use Rattle.filters.proofs.rows.rest.Statement.{statement}
+use Rattle.filters.proofs.rows.rest.Tie as tie
 
 sub-result : tie.Need-sub-result
 sub-result c = search needs

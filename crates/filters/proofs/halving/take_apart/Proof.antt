@@ -1,0 +1,82 @@
+-- `take_apart` meets its contract. Assumes nothing.
+use mathlib.Core.Path.{_≡_, refl}
+use Prim.Native.Nat.{_-_}
+use native.Mathlib.Omega.{arith}
+use lib.ListN.{length, length-set}
+use Rattle.filters.specs.Halve.{Apart}
+use Rattle.filters.proofs.Pairs.{apart-none, apart-more}
+use Rattle.filters.proofs.halving.take_apart.Statement.{statement}
+use Rattle.filters.proofs.halving.take_apart.Tie as tie
+
+abbrev Inv-loop : tie.InvT-loop
+Inv-loop split₀ src n i₀ split i = Apart n i src split × (length split ≡ length split₀)
+
+abbrev μ-loop : tie.MeasureT-loop
+μ-loop split₀ src n i₀ split i = n - i
+
+loop-holds : tie.Need-loop-holds Inv-loop μ-loop
+loop-holds c = (apart-none (omega arith), refl)
+
+add-at : tie.Need-add-at Inv-loop μ-loop
+add-at c = omega arith
+
+mul-split : tie.Need-mul-split Inv-loop μ-loop
+mul-split c = omega arith
+
+shared-slice-read-split : tie.Need-shared-slice-read-split Inv-loop μ-loop
+shared-slice-read-split c = omega arith
+
+slice-write-split : tie.Need-slice-write-split Inv-loop μ-loop
+slice-write-split c = omega arith
+
+mul-split-2 : tie.Need-mul-split-2 Inv-loop μ-loop
+mul-split-2 c = omega arith
+
+add-split : tie.Need-add-split Inv-loop μ-loop
+add-split c = omega arith
+
+shared-slice-read-split-2 : tie.Need-shared-slice-read-split-2 Inv-loop μ-loop
+shared-slice-read-split-2 c = omega arith
+
+add-split-2 : tie.Need-add-split-2 Inv-loop μ-loop
+add-split-2 c = omega arith
+
+slice-write-split-2 : tie.Need-slice-write-split-2 Inv-loop μ-loop
+slice-write-split-2 c = simp length-set (omega arith)
+
+add-i : tie.Need-add-i Inv-loop μ-loop
+add-i c = omega arith
+
+loop-less : tie.Need-loop-less Inv-loop μ-loop
+loop-less c = omega arith
+
+loop-again : tie.Need-loop-again Inv-loop μ-loop
+loop-again c = let l = c .before .before .before .loop in (apart-more (l .inv .0) (omega arith) refl refl, simp length-set (l .inv .1))
+
+same-length : tie.Need-same-length Inv-loop μ-loop
+same-length c = c .before .loop .inv .1
+
+returns : tie.Need-returns Inv-loop μ-loop
+returns c = let l = c .before .loop in let e : c .before .before .args .n ≡ l .i = omega arith in rw e (rw e at (l .inv .0))
+
+pub take-apart-spec : {M : Type 1} → statement M
+take-apart-spec =
+    tie.close
+    (tie.spec
+    Inv-loop
+    μ-loop
+    loop-holds
+    add-at
+    mul-split
+    shared-slice-read-split
+    slice-write-split
+    mul-split-2
+    add-split
+    shared-slice-read-split-2
+    add-split-2
+    slice-write-split-2
+    add-i
+    loop-less
+    loop-again
+    same-length
+    returns)
