@@ -162,6 +162,13 @@ put-part c ys l at fits e =
     ap (λ (x : List ℕ). take at c ++ (x ++ drop (at + length ys - at) (drop at c))) (e ∙ take-all (length (take (at + length ys - at) (drop at c))) ys long)
     ∙ put-lent c ys at (at + length ys - at) (sym n) (omega arith)
 
+-- the part from a to e was lent and came back as zeros
+pub put-zeros : (c l : List ℕ) (a e : ℕ) → a ≤ e → e ≤ length c → l ≡ replicate (length (take (e - a) (drop a c))) 0 → take a c ++ (l ++ drop (e - a) (drop a c)) ≡ put c a (replicate (e - a) 0)
+put-zeros c l a e ordered fits is =
+    let n : length (take (e - a) (drop a c)) ≡ e - a = length-take (e - a) (drop a c) ∙ omega (arith, length-drop a c) in
+    ap (λ (x : List ℕ). take a c ++ (x ++ drop (e - a) (drop a c))) (is ∙ ap (λ (k : ℕ). replicate k 0) n)
+    ∙ put-lent c (replicate (e - a) 0) a (e - a) (length-replicate (e - a) 0) (omega arith)
+
 -- ---- in two lists
 pub put-left : (F S ys : List ℕ) (at : ℕ) → at + length ys ≤ length F → put F at ys ++ S ≡ put (F ++ S) at ys
 put-left F S ys at fits =
@@ -232,3 +239,10 @@ walked-more {step} {c₀} {c} {c'} {h} {y} w lt len e =
 
 pub walked-whole : {step : ℕ → List ℕ → List ℕ} {c₀ c : List ℕ} {h y : ℕ} → Walked step c₀ c h y → h ≤ y → c ≡ steps step h c₀
 walked-whole {step} {c₀} {c} {h} {y} w le = let e : y ≡ h = omega arith in w .is ∙ ap (λ (k : ℕ). steps step k c₀) e
+
+-- a loop that counts from 1
+pub walked-next : (step : ℕ → List ℕ → List ℕ) {c₀ c c' : List ℕ} {h y : ℕ} → 1 ≤ y → Walked (λ i. step (i + 1)) c₀ c (h - 1) (y - 1) → y < h → length c' ≡ length c → c' ≡ step y c → Walked (λ i. step (i + 1)) c₀ c' (h - 1) (y + 1 - 1)
+walked-next step {c₀} {c} {c'} {h} {y} some w lt len e =
+    let here : y ≡ y - 1 + 1 = omega arith in
+    let next : y - 1 + 1 ≡ y + 1 - 1 = omega arith in
+    subst (λ (k : ℕ). Walked (λ i. step (i + 1)) c₀ c' (h - 1) k) next (walked-more w (omega arith) len (e ∙ ap (λ (k : ℕ). step k c) here))

@@ -1,6 +1,9 @@
 -- Document 01's number and value: of each call, and of each answer.
 use Prim.Native.Nat.{ℕ}
-use mathlib.Core.List.{List}
+use mathlib.Core.Bool.{cond}
+use mathlib.Core.List.{List, []}
+use lib.Dec.{eqb}
+use lib.ListN.{length, take, drop}
 use Rattle.settings.specs.Limits.{mostLevels}
 use Rattle.settings.specs.Answers.{Answer, answer, complete, number, tested}
 use Rattle.filters.specs.Row.{tab}
@@ -9,8 +12,9 @@ use Rattle.builder.specs.declared.layout.Region.{Region}
 use Rattle.builder.specs.declared.layout.Laid.{Laid}
 use Rattle.builder.specs.declared.layout.Ended.{Ended}
 use Rattle.builder.specs.declared.layout.Ended.the-variants.{End, Refused as EndRefused}
-use Rattle.builder.specs.Layout.{levelsOf, regionOr, noRegion, writtenEnd}
-use Rattle.builder.specs.Numbers.{layoutNo}
+use Rattle.builder.specs.Layout.{levelsOf, widthAt, rowStart, regionOr, noRegion, writtenEnd}
+use Rattle.builder.specs.Margins.{cleared}
+use Rattle.builder.specs.Numbers.{layoutNo, frameNo, rowNo}
 
 -- the regions of the levels, in columns
 pub record Columns : Type 0 where
@@ -35,6 +39,15 @@ layoutAnswer q = complete (layoutNo q) (columns (levelsOf q) (regionOr q)) (colu
 abbrev pub endAnswer : Layout → Answer ℕ
 endAnswer q = complete (layoutNo q) (writtenEnd q) 0
 
+-- "A row is its level's w bytes. A refused row is the empty part"
+unfoldable pub rowPart : Layout → List ℕ → ℕ → ℕ → ℕ → List ℕ
+rowPart q f l k y = cond (eqb (rowNo q (length f) l k y) 0) (take (widthAt q l) (drop (rowStart q l k y) f)) []
+
+-- clearing margins, with the frame that it leaves: "no refusal changes a lent byte"
+abbrev pub clearAnswer : Layout → List ℕ → Answer (List ℕ)
+clearAnswer q f = complete (frameNo q (length f)) (cleared q f) f
+
+-- ---- the answers
 abbrev pub laid : Laid → Answer Columns
 laid a = answer (tested (a .tested)) (record { count = a .count; offsets = a .offsets; widths = a .widths; heights = a .heights })
 

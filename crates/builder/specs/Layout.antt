@@ -1,7 +1,8 @@
 -- Document 01, "Settings and sizes": a plane's levels, and where they lie.
-use Prim.Native.Nat.{ℕ, zero, suc, _*_, _/_, _^_}
+use Prim.Native.Nat.{ℕ, zero, suc, _+_, _*_, _/_, _^_}
 use mathlib.Core.Bool.{cond}
 use lib.Dec.{ltb, leb}
+use Rattle.settings.specs.Limits.{mostSide, mostPitch, mostLevels}
 use Rattle.settings.specs.Numbers.{total}
 use Rattle.settings.specs.Sizes.{reduced}
 use Rattle.settings.specs.Check.{pelOf, lumaW, lumaH, levelCount}
@@ -45,6 +46,14 @@ regionAt q l = record { offset = offsetAt q l; width = widthAt q l; height = hei
 -- level l's region; zeros where there is no such level
 abbrev pub regionOr : Layout → ℕ → Region
 regionOr q l = cond (ltb l (levelsOf q)) (regionAt q l) noRegion
+
+-- where row y of plane k of level l starts
+abbrev pub rowStart : Layout → ℕ → ℕ → ℕ → ℕ
+rowStart q l k y = offsetAt q l + (k * heightAt q l + y) * q .pitch
+
+-- what no offset of an accepted layout exceeds
+abbrev pub mostOffset : ℕ
+mostOffset = mostLevels * (16 * mostSide * mostPitch)
 
 -- "level 1's height * pitch if not full and levels are 2 or more, else 16"
 abbrev pub spillNeed : Layout → ℕ

@@ -1,11 +1,12 @@
 // A plane's levels by their numbers: what the calls are made of.
-// A level's width, height and planes; refusals 6, 7 and 8; offsets and regions. Only an accepted layout has offsets that fit.
+// A level's width, height and planes; refusals 6, 7 and 8; offsets; refusal 11; regions. Only an accepted layout has offsets that fit.
 ghost use mathlib.Core.Path.{_≡_};
 ghost use Prim.Native.Nat.{_/_, _^_, _≤_};
 ghost use Rattle.settings.specs.Limits.{mostLevels};
 ghost use Rattle.settings.specs.Answers.{tested};
 ghost use Rattle.builder.specs.Layout.{widthAt, heightAt, storedAt, offsetAt, regionOr};
-ghost use Rattle.builder.specs.Numbers.{leastPitch, badPitch, layoutNo};
+ghost use Rattle.builder.specs.Numbers.{leastPitch, badPitch, layoutNo, frameNo};
+use crate::layout::Ended;
 use crate::layout::Layout;
 use crate::layout::Region;
 use settings::limits::MOST_PITCH;
@@ -95,6 +96,16 @@ pub fn offset(layout: Layout, level: u32) -> usize
         offset += stored(layout, above) * height(layout, above) * layout.pitch;
     }
     offset
+}
+
+// Refusals 6, 7, 8 and 11.
+pub fn frame_tested(layout: Layout, len: usize) -> Tested
+    ensures { λ r. ⌜ tested r ≡ frameNo layout len ⌝ }
+{
+    match layout.written_end() {
+        Ended::End(end) => Tested::Fine.then_refuse(len < end, Refusal::Frame),
+        Ended::Refused(f) => Tested::Refused(f),
+    }
 }
 
 // Zeros where there is no such level.

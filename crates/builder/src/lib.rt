@@ -1,7 +1,11 @@
 // A plane's levels in a frame: open-svpflow's super_build.rs.
-//     layout    the regions of a plane's levels, and where they end
-//     levels    the numbers of one level
-//     canvas    a frame and its spill as one run of bytes
+//     layout     the regions of a plane's levels, and where they end
+//     levels     the numbers of one level, and the refusals of a layout
+//     canvas     a frame and its spill as one run of bytes
+//     rows       a row of a frame
+//     margins    clearing the margins of a frame's levels
 mod canvas;
 pub mod layout;
 mod levels;
+pub mod margins;
+pub mod rows;

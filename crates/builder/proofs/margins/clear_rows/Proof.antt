@@ -1,0 +1,81 @@
+-- `clear_rows` meets its contract. The loop has cleared the rows passed. Assumes nothing.
+use mathlib.Core.Path.{_≡_, ap, _∙_}
+use Prim.Native.Nat.{ℕ, _+_, _*_, _-_, _≤_}
+use native.Mathlib.Omega.{arith}
+use lib.ListN.{length, replicate}
+use Rattle.builder.specs.Canvas.{put}
+use Rattle.builder.specs.Margins.{clearRows}
+use Rattle.builder.proofs.Runs.{row-in, Walked, walked-none, walked-more, walked-whole}
+use Rattle.builder.proofs.margins.clear_rows.Statement.{statement}
+use Rattle.builder.proofs.margins.clear_rows.Tie as tie
+
+abbrev Inv-loop : tie.InvT-loop
+Inv-loop frame₀ target pitch height y₀ frame y = Walked (λ i d. put d (target .offset + i * pitch + target .width) (replicate (pitch - target .width) 0)) frame₀ frame height y
+
+abbrev μ-loop : tie.MeasureT-loop
+μ-loop frame₀ target pitch height y₀ frame y = height - y
+
+inside : (c : tie.In-loop Inv-loop μ-loop) → c .before .before .before .args .target .offset + c .before .loop .y * c .before .before .before .args .pitch + c .before .before .before .args .pitch ≤ length (c .before .loop .frame)
+inside c =
+    let s = c .before .before .before in
+    let h = s .args .target .height in
+    omega (arith, row-in (c .before .loop .y) h (s .args .pitch) (c .loop-test .taken), s .pre .1, c .before .loop .inv .same)
+
+loop-holds : tie.Need-loop-holds Inv-loop μ-loop
+loop-holds c = walked-none
+
+mul-start : tie.Need-mul-start Inv-loop μ-loop
+mul-start c = omega (arith, inside c)
+
+add-start : tie.Need-add-start Inv-loop μ-loop
+add-start c = omega (arith, inside (c .before))
+
+add-zero-run : tie.Need-add-zero-run Inv-loop μ-loop
+add-zero-run c = omega (arith, inside (c .before .before .before), c .before .before .before .before .before .before .pre)
+
+add-zero-run-2 : tie.Need-add-zero-run-2 Inv-loop μ-loop
+add-zero-run-2 c = omega (arith, inside (c .before .before .before))
+
+zero-run-requires : tie.Need-zero-run-requires Inv-loop μ-loop
+zero-run-requires c κs = (omega (arith, c .before .before .before .before .before .before .pre), omega (arith, inside (c .before .before .before)))
+
+add-y : tie.Need-add-y Inv-loop μ-loop
+add-y c = omega arith
+
+loop-less : tie.Need-loop-less Inv-loop μ-loop
+loop-less c = omega arith
+
+loop-again : tie.Need-loop-again Inv-loop μ-loop
+loop-again c =
+    let t = c .before .before .before .before .before .before in
+    let s = t .before .before .before .args in
+    let y = t .before .loop .y in
+    let start = s .target .offset + y * s .pitch in
+    let n : start + s .pitch - (start + s .target .width) ≡ s .pitch - s .target .width = omega arith in
+    walked-more (t .before .loop .inv) (t .loop-test .taken) (c .before .before .zero-run .kept .0)
+    (c .before .before .zero-run .ensures ∙ ap (λ (k : ℕ). put (t .before .loop .frame) (start + s .target .width) (replicate k 0)) n)
+
+same-length : tie.Need-same-length Inv-loop μ-loop
+same-length c = c .before .loop .inv .same
+
+returns : tie.Need-returns Inv-loop μ-loop
+unfolding clearRows
+returns c = walked-whole (c .before .loop .inv) (c .loop-test .left)
+
+pub clear-rows-spec : {M : Type 1} → statement M
+clear-rows-spec =
+    tie.close
+    (tie.spec
+    Inv-loop
+    μ-loop
+    loop-holds
+    mul-start
+    add-start
+    add-zero-run
+    add-zero-run-2
+    zero-run-requires
+    add-y
+    loop-less
+    loop-again
+    same-length
+    returns)
