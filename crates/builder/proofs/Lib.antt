@@ -1,8 +1,14 @@
 -- What is proved of the definitions, from the general to the special:
 --     Choices    what a choice by a test gives
---     Runs       reading and storing in a frame and its spill
+--     Runs       reading and storing in a frame and its spill; loops over rows
 --     Layouts    an accepted layout: its numbers are small, and its levels follow each other
+--     Known      an answer is known by its number and value
+--     ByHand     document 01's examples, computed
+--     Unique     no second outcome meets a public call's contract
 -- The folders hold a proof for each function.
 pub mod Choices
 pub mod Runs
 pub mod Layouts
+pub mod Known
+pub mod ByHand
+pub mod Unique

@@ -1,0 +1,67 @@
+-- Document 01, "Checked by hand": its entry on the layout, computed; and "target width 8 fuses, 7 and 10 don't". Assumes nothing.
+use mathlib.Core.Path.{_≡_, refl}
+use mathlib.Core.Bool.{Bool, true, false}
+use mathlib.Core.List.{List, [], _∷_}
+use Prim.Native.Nat.{ℕ}
+use lib.IntN.{pos}
+use Rattle.settings.specs.Numbers.{total}
+use Rattle.settings.specs.Sizes.{reduced, levelsIn}
+use Rattle.settings.specs.Check.{settingsNo, accepted}
+use Rattle.builder.specs.declared.layout.Layout.{Layout}
+use Rattle.builder.specs.Layout.{offsetAt}
+use Rattle.builder.specs.Margins.{cubicFits, fusedAt}
+use Rattle.builder.specs.Numbers.{layoutNo, frameNo}
+use Rattle.builder.specs.Answers.{endAnswer}
+
+-- a luma plane of w by h at pel 2, with the other settings left out
+plane : ℕ → ℕ → ℕ → ℕ → Layout
+plane w h levels pitch =
+    record {
+      opts = record {
+        pel = pos 2;
+        gpu = pos 1;
+        «scale_down» = pos 4;
+        «scale_up» = pos 0;
+        full = true;
+        rc = false;
+        lean = false;
+        levels = pos levels;
+        width = pos w;
+        height = pos h;
+      };
+      «x_shift» = 0;
+      «y_shift» = 0;
+      pitch = pitch;
+    }
+
+pub computed : List ℕ
+unfolding plane layoutNo frameNo accepted settingsNo levelsIn reduced offsetAt total
+computed =
+    let q = plane 64 48 4 64 in
+    offsetAt q 1
+    ∷ endAnswer q .no
+    ∷ endAnswer q .value
+    ∷ frameNo q 14976
+    ∷ frameNo q 14975
+    ∷ []
+
+-- "64x48 at pel 2, pitch 64 puts level 1 at 12,288 and ends at 14,976"; "frame 14,975 bytes gives 11"
+pub said : List ℕ
+said = 12288 ∷ 0 ∷ 14976 ∷ 0 ∷ 11 ∷ []
+
+pub by-hand : computed ≡ said
+unfolding computed said plane layoutNo frameNo accepted settingsNo levelsIn reduced offsetAt total
+by-hand = refl
+
+-- level 1 of planes that are 16, 14 and 20 wide
+pub fuses : List Bool
+unfolding plane fusedAt cubicFits reduced offsetAt total
+fuses =
+    fusedAt (plane 16 16 3 32) 3000 1
+    ∷ fusedAt (plane 15 16 2 32) 3000 1
+    ∷ fusedAt (plane 20 16 3 32) 3000 1
+    ∷ []
+
+pub fuses-said : fuses ≡ (true ∷ false ∷ false ∷ [])
+unfolding fuses plane fusedAt cubicFits reduced offsetAt total
+fuses-said = refl
