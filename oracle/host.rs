@@ -59,3 +59,9 @@ pub(crate) fn layout(r: &SuperOpts, pitch: usize, shifts: (u32, u32)) -> (Vec<(u
     let end = written_end(&regions, pitch, r);
     (regions.iter().map(|g| (g.offset, g.width, g.height)).collect(), end)
 }
+
+pub(crate) fn clear(frame: &mut [u8], r: &SuperOpts, pitch: usize, shifts: (u32, u32)) {
+    let regions = level_regions(pitch, r.width as usize, r.height as usize, shifts, r);
+    let len = frame.len();
+    clear_margins(frame, &regions, pitch, len, r);
+}

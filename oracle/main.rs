@@ -6,6 +6,8 @@
 //!     oracle rows                         the Rust's answers to such cases, from standard input
 //!     oracle layout-cases SEED COUNT      cases for `replay_layout`, a line each
 //!     oracle layout                       the Rust's answers to such cases, from standard input
+//!     oracle margins-cases SEED COUNT     cases for `replay_margins`
+//!     oracle margins                      the Rust's answers to such cases, from standard input
 //!     oracle words-cases SEED COUNT       words of accepted records, and damaged ones
 //!     oracle words-all                    every word of sides 1 to 24, and its neighbour
 //!     oracle words-packed                 what document 01 prints for each word that settings cases, from standard input, pack to
@@ -29,6 +31,7 @@ mod analyse {
 }
 
 mod layout;
+mod margins;
 mod random;
 mod rows;
 mod settings;
@@ -44,6 +47,8 @@ fn main() {
         Some("rows") => rows::answers(),
         Some("layout-cases") => layout::cases(number(1), number(2)),
         Some("layout") => layout::answers(),
+        Some("margins-cases") => margins::cases(number(1), number(2)),
+        Some("margins") => margins::answers(),
         Some("words-cases") => words::cases(number(1), number(2)),
         Some("words-all") => words::all(),
         Some("words-packed") => words::packed(),
@@ -53,6 +58,6 @@ fn main() {
 }
 
 fn usage() -> ! {
-    eprintln!("usage: oracle SUBJECT-cases SEED COUNT | oracle words-all | oracle words-packed | oracle SUBJECT; SUBJECT: settings, rows, layout, words");
+    eprintln!("usage: oracle SUBJECT-cases SEED COUNT | oracle words-all | oracle words-packed | oracle SUBJECT; SUBJECT: settings, rows, layout, margins, words");
     std::process::exit(2)
 }

@@ -1,0 +1,78 @@
+//! Cases about a frame's margins and rows, and the Rust's answers. The form of a case is in crates/replay_margins/src/main.rt.
+
+use crate::layout::{laid_out, record};
+use crate::random::Random;
+use crate::super_build as sb;
+use std::io::{BufWriter, Read, Write};
+
+fn write(out: &mut impl Write, words: &[u32], frame: &[u8]) {
+    for w in words { out.write_all(&w.to_le_bytes()).unwrap(); }
+    out.write_all(frame).unwrap();
+}
+
+/// A frame that is long enough, or number 11.
+fn framed(w: &[u32], len: usize) -> Result<crate::super_opts::SuperOpts, u32> {
+    let r = laid_out(&w[..14])?;
+    let (_, end) = sb::layout(&r, w[13] as usize, (w[10], w[11]));
+    if len < end { Err(11) } else { Ok(r) }
+}
+
+/// A stored row: "19: no such level, plane or row is stored".
+fn row(w: &[u32], frame: &[u8]) -> Result<Vec<u8>, u32> {
+    let r = framed(w, frame.len())?;
+    let (level, plane, y, pitch) = (w[15] as usize, w[16] as usize, w[17] as usize, w[13] as usize);
+    let (regions, _) = sb::layout(&r, pitch, (w[10], w[11]));
+    let &(offset, width, height) = regions.get(level).ok_or(19u32)?;
+    let planes = if level > 0 { 1 } else if r.full { (r.pel * r.pel) as usize } else { 0 };
+    if plane >= planes || y >= height { return Err(19); }
+    Ok(frame[offset + (plane * height + y) * pitch..][..width].to_vec())
+}
+
+pub fn answers() {
+    let mut from = std::io::BufReader::new(std::io::stdin().lock());
+    let mut out = BufWriter::new(std::io::stdout().lock());
+    let mut head = [0u8; 80];
+    while from.read_exact(&mut head).is_ok() {
+        let w: Vec<u32> = head.chunks(4).map(|c| u32::from_le_bytes(c.try_into().unwrap())).collect();
+        let mut frame = vec![0; w[14] as usize];
+        from.read_exact(&mut frame).unwrap();
+        if w[18] == 0 {
+            let number = match framed(&w, frame.len()) {
+                Ok(r) => { sb::clear(&mut frame, &r, w[13] as usize, (w[10], w[11])); 0 }
+                Err(number) => number,
+            };
+            write(&mut out, &[number], &frame);
+        } else {
+            let (number, row) = match row(&w, &frame) { Ok(row) => (0, row), Err(number) => (number, vec![]) };
+            write(&mut out, &[number, row.len() as u32], &row);
+        }
+    }
+}
+
+/// `count` cases of sides 1 to 40 (the kept list: 1 to 16), with every shift, full or not, pel and down; frames exact, longer and one short; random bytes before; some with a value changed.
+pub fn cases(seed: u64, count: u64) {
+    let mut rng = Random(seed);
+    let mut out = BufWriter::new(std::io::stdout().lock());
+    let sides = if count <= 600 { 16 } else { 40 };
+    for k in 0..count {
+        let mut side = || 1 + rng.below(sides) as u32;
+        let (width, height) = (side(), side());
+        let (pel, full) = rng.pick(&[(1, true), (2, true), (4, true), (1, false)]);
+        let mut w = record(pel, full, width, height).to_vec();
+        w[2] = rng.pick(&[4, 4, 4, 0, 2, 3, 5]);
+        let (x, y) = (rng.below(2) as u32, rng.below(2) as u32);
+        let least = (if full { width } else { 2 * (width / 4) } >> x).max(1);
+        let pitch = least + rng.pick(&[0, 0, 1, 3, 8, 16]);
+        w.extend([x, y, 0, pitch]);
+        let end = laid_out(&w).map_or(0, |r| sb::layout(&r, pitch as usize, (x, y)).1) as u32;
+        let len = match rng.below(6) { 0 => end.saturating_sub(1), 1 | 2 => end + rng.below(81) as u32, _ => end };
+        w.extend([len, rng.below(5) as u32, rng.below(u64::from(pel * pel) + 1) as u32, rng.below(u64::from(height) + 1) as u32, (k % 2) as u32, 0]);
+        if rng.below(8) == 0 {
+            let at = rng.pick(&[0, 1, 4, 7, 8, 9, 10, 11, 13, 15, 16, 17]);
+            w[at] = rng.pick(&[0, 1, 2, 3, u32::MAX, 32_769, 1 << 31]);
+            if at == 4 { w[4] &= 1; }
+        }
+        let frame: Vec<u8> = (0..len).map(|_| 1 + rng.below(255) as u8).collect();
+        write(&mut out, &w, &frame);
+    }
+}
