@@ -193,6 +193,11 @@ module _ (q : Layout) (a : Allowed q) where
   unfolding reduced
   width-half l = halves (reduced (lumaW (q .opts)) l) (q .«x_shift») (a .x)
 
+  -- and its height alike
+  pub height-half : (l : ℕ) → 2 * heightAt q (suc l) ≤ heightAt q l
+  unfolding reduced
+  height-half l = halves (reduced (lumaH (q .opts)) l) (q .«y_shift») (a .y)
+
   pub width-first : q .opts .full ≡ true → widthAt q 0 ≤ q .pitch
   width-first e = subst (λ (n : ℕ). n ≤ q .pitch) (cond-yes (q .opts .full) (widthAt q 0) (widthAt q 1) e) (a .least)
 

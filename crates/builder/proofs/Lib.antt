@@ -2,6 +2,7 @@
 --     Choices    what a choice by a test gives
 --     Runs       reading and storing in a frame and its spill; loops over rows
 --     Layouts    an accepted layout: its numbers are small, and its levels follow each other
+--     Stored     levels that are stored: none is smaller than 2 by 2, which are fused, what the spill holds
 --     Known      an answer is known by its number and value
 --     ByHand     document 01's examples, computed
 --     Unique     no second outcome meets a public call's contract
@@ -9,6 +10,7 @@
 pub mod Choices
 pub mod Runs
 pub mod Layouts
+pub mod Stored
 pub mod Known
 pub mod ByHand
 pub mod Unique
