@@ -1,4 +1,4 @@
--- An accepted layout: its numbers are small, and its levels follow each other. Assumes nothing.
+-- A layout that isn't refused: what the refusals leave; its numbers are small; its levels follow each other and fit the pitch; a row lies in its level. Assumes nothing.
 use mathlib.Core.Path.{_≡_, refl, sym, ap, subst, _∙_}
 use mathlib.Core.Logic.{⊎-elim}
 use mathlib.Core.Bool.{Bool, true, false, not, cond, _||_}
@@ -205,9 +205,9 @@ module _ (q : Layout) (a : Allowed q) where
   width-later zero = least-later (q .opts .full) (widthAt q 0) (widthAt q 1) (q .pitch) (a .least) (width-half 0)
   width-later (suc l) = omega (arith, width-half (suc l), width-later l)
 
-  pub later : (l : ℕ) → 1 ≤ l → widthAt q l ≤ q .pitch
-  later zero h = absurd (omega arith)
-  later (suc l) h = width-later l
+  pub width-fits : (l : ℕ) → 1 ≤ l → widthAt q l ≤ q .pitch
+  width-fits zero h = absurd (omega arith)
+  width-fits (suc l) h = width-later l
 
   pub width-le : (l : ℕ) → widthAt q l ≤ mostSide
   width-le l = omega (arith, div-le-self (reduced (lumaW (q .opts)) l) (2 ^ q .«x_shift»), reduced-le (lumaW (q .opts)) l, within (q .opts) (a .good) .width)

@@ -1,7 +1,7 @@
 -- What is proved of the definitions, from the general to the special:
 --     Choices    what a choice by a test gives
 --     Runs       reading and storing in a frame and its spill; loops over rows
---     Layouts    an accepted layout: its numbers are small, and its levels follow each other
+--     Layouts    a layout that isn't refused: its numbers are small, its levels follow each other, a row lies in its level
 --     Stored     levels that are stored: none is smaller than 2 by 2, which are fused, what the spill holds
 --     Known      an answer is known by its number and value
 --     ByHand     document 01's examples, computed

@@ -9,7 +9,7 @@ use Rattle.builder.specs.declared.layout.Region.{Region}
 use Rattle.builder.specs.Layout.{regionAt}
 use Rattle.builder.specs.Margins.{fusedAt, clearRows, clearLevel}
 use Rattle.builder.proofs.Choices.{cond-yes, cond-no}
-use Rattle.builder.proofs.Layouts.{allowed, region-there, level-end, bytes-later, later}
+use Rattle.builder.proofs.Layouts.{allowed, region-there, level-end, bytes-later, width-fits}
 use Rattle.builder.proofs.margins.clear_level.Statement.{statement}
 use Rattle.builder.proofs.margins.clear_level.Tie as tie
 
@@ -32,7 +32,7 @@ clear-rows-requires c κs =
     let q = s .args .layout in
     let l = s .args .level in
     let t = c .before .region .ensures ∙ region-there q l (s .pre .2) in
-    rw t (later q (allowed q (s .pre .0)) l (s .pre .1), omega (arith, level-end q l (s .pre .2), bytes-later q l (s .pre .1), s .pre .3))
+    rw t (width-fits q (allowed q (s .pre .0)) l (s .pre .1), omega (arith, level-end q l (s .pre .2), bytes-later q l (s .pre .1), s .pre .3))
 
 same-length : tie.Need-same-length
 same-length c = search needs
