@@ -13,9 +13,9 @@ use Rattle.builder.specs.Margins.{cubicFits, fusedAt}
 use Rattle.builder.specs.Numbers.{layoutNo, frameNo}
 use Rattle.builder.specs.Answers.{endAnswer}
 
--- a luma plane of w by h at pel 2, with the other settings left out
-plane : ℕ → ℕ → ℕ → ℕ → Layout
-plane w h levels pitch =
+-- a plane of w by h at pel 2, with the other settings left out
+plane : ℕ → ℕ → ℕ → ℕ → ℕ → Layout
+plane w h levels shift pitch =
     record {
       opts = record {
         pel = pos 2;
@@ -29,7 +29,7 @@ plane w h levels pitch =
         width = pos w;
         height = pos h;
       };
-      «x_shift» = 0;
+      «x_shift» = shift;
       «y_shift» = 0;
       pitch = pitch;
     }
@@ -37,7 +37,7 @@ plane w h levels pitch =
 pub computed : List ℕ
 unfolding plane layoutNo frameNo accepted settingsNo levelsIn reduced offsetAt total
 computed =
-    let q = plane 64 48 4 64 in
+    let q = plane 64 48 4 0 64 in
     offsetAt q 1
     ∷ endAnswer q .no
     ∷ endAnswer q .value
@@ -53,13 +53,13 @@ pub by-hand : computed ≡ said
 unfolding computed said plane layoutNo frameNo accepted settingsNo levelsIn reduced offsetAt total
 by-hand = refl
 
--- level 1 of planes that are 16, 14 and 20 wide
+-- level 1 is 8, 7 and 10 wide
 pub fuses : List Bool
 unfolding plane fusedAt cubicFits reduced offsetAt total
 fuses =
-    fusedAt (plane 16 16 3 32) 3000 1
-    ∷ fusedAt (plane 15 16 2 32) 3000 1
-    ∷ fusedAt (plane 20 16 3 32) 3000 1
+    fusedAt (plane 16 16 3 0 32) 3000 1
+    ∷ fusedAt (plane 28 16 3 1 32) 3000 1
+    ∷ fusedAt (plane 20 16 3 0 32) 3000 1
     ∷ []
 
 pub fuses-said : fuses ≡ (true ∷ false ∷ false ∷ [])
