@@ -96,9 +96,9 @@ pub fn cases(seed: u64, count: u64) {
         for n in lengths {
             for kind in MEANS..=HALF_DOWN {
                 let filters = match kind { VERTICAL | HORIZONTAL => 4, HALF_ROW | HALF_DOWN => 2, _ => 1 };
-                // the Rust makes half samples of rows of 2 bytes and more
-                if (kind == HALF_ROW || kind == HALF_DOWN) && n < 2 { continue; }
                 for filter in 1..=filters {
+                    // the Rust makes no half samples of an empty row, and panics on one byte by the Wiener kernel
+                    if n == 0 && kind >= HALF_ROW || n == 1 && kind == HALF_ROW && filter == 2 { continue; }
                     let h = 1 + rng.below(9) as u16;
                     let y = rng.below(h.into()) as u16;
                     let wild = rng.below(3);
