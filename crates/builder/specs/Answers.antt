@@ -3,7 +3,7 @@ use Prim.Native.Nat.{ℕ}
 use mathlib.Core.Bool.{cond}
 use mathlib.Core.List.{List, []}
 use lib.Dec.{eqb}
-use lib.ListN.{length, take, drop}
+use lib.ListN.{length, take, drop, replicate}
 use Rattle.settings.specs.Limits.{mostLevels}
 use Rattle.settings.specs.Answers.{Answer, answer, complete, number, tested}
 use Rattle.filters.specs.Row.{tab}
@@ -15,6 +15,7 @@ use Rattle.builder.specs.declared.layout.Ended.the-variants.{End, Refuse
 use Rattle.builder.specs.Layout.{levelsOf, widthAt, rowStart, regionOr, noRegion, writtenEnd}
 use Rattle.builder.specs.Margins.{cleared}
 use Rattle.builder.specs.Numbers.{layoutNo, frameNo, rowNo}
+use Rattle.builder.specs.Build.{builtFrame}
 
 -- the regions of the levels, in columns
 pub record Columns : Type 0 where
@@ -46,6 +47,14 @@ rowPart q f l k y = cond (eqb (rowNo q (length f) l k y) 0) (take (widthAt q l) 
 -- clearing margins, with the frame that it leaves: "no refusal changes a lent byte"
 abbrev pub clearAnswer : Layout → List ℕ → Answer (List ℕ)
 clearAnswer q f = complete (frameNo q (length f)) (cleared q f) f
+
+-- building, with the frame that it leaves
+abbrev pub buildAnswer : ℕ → Layout → List ℕ → ℕ → List ℕ → Answer (List ℕ)
+buildAnswer n q src sp f = complete n (builtFrame q src sp f) f
+
+-- spill or scratch: "After a finished build, spill and scratch are zero throughout"; "no refusal changes a lent byte"
+abbrev pub lentAfter : ℕ → List ℕ → Answer (List ℕ)
+lentAfter n lent = complete n (replicate (length lent) 0) lent
 
 -- ---- the answers
 abbrev pub laid : Laid → Answer Columns

@@ -17,3 +17,12 @@ put c at ys = take at c ++ (replicate (at - length c) 0 ++ (ys ++ drop (length y
 unfoldable pub steps : (ℕ → List ℕ → List ℕ) → ℕ → List ℕ → List ℕ
 steps step zero c = c
 steps step (suc n) c = step n (steps step n c)
+
+-- a run of n bytes, from s to t
+unfoldable pub copyRun : ℕ → ℕ → ℕ → List ℕ → List ℕ
+copyRun s t n c = put c t (fetch c s n)
+
+-- one stage after the other
+infixl 15 _▷_
+abbrev pub _▷_ : List ℕ → (List ℕ → List ℕ) → List ℕ
+c ▷ f = f c

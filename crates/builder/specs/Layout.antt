@@ -58,3 +58,7 @@ mostOffset = mostLevels * (16 * mostSide * mostPitch)
 -- "level 1's height * pitch if not full and levels are 2 or more, else 16"
 abbrev pub spillNeed : Layout → ℕ
 spillNeed q = cond (q .opts .full) 16 (cond (leb 2 (levelsOf q)) (heightAt q 1 * q .pitch) 16)
+
+-- "scratch shorter than 16 * (pitch + 16)"
+abbrev pub scratchNeed : Layout → ℕ
+scratchNeed q = 16 * (q .pitch + 16)

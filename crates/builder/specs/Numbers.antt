@@ -1,12 +1,12 @@
--- Document 01, "Numbers a call can give": 6, 7, 8, 11 and 19, in order, for each call.
-use Prim.Native.Nat.{ℕ}
+-- Document 01, "Numbers a call can give": 6 to 13 and 19, in order, for each call.
+use Prim.Native.Nat.{ℕ, _+_, _*_, _-_}
 use mathlib.Core.Bool.{Bool, cond, _||_}
-use lib.Dec.{ltb, leb}
+use lib.Dec.{ltb, leb, eqb}
 use Rattle.settings.specs.Limits.{mostPitch}
 use Rattle.settings.specs.Numbers.{refuse, _then_}
 use Rattle.settings.specs.Check.{recordNo}
 use Rattle.builder.specs.declared.layout.Layout.{Layout}
-use Rattle.builder.specs.Layout.{levelsOf, widthAt, heightAt, storedAt, writtenEnd}
+use Rattle.builder.specs.Layout.{levelsOf, widthAt, heightAt, storedAt, writtenEnd, spillNeed, scratchNeed}
 
 -- "below max(1, least) or above 32,768"
 abbrev pub badPitch : ℕ → ℕ → Bool
@@ -34,3 +34,17 @@ noRow q l k y = leb (levelsOf q) l || leb (storedAt q l) k || leb (heightAt q l)
 -- a row
 unfoldable pub rowNo : Layout → ℕ → ℕ → ℕ → ℕ → ℕ
 rowNo q len l k y = frameNo q len then refuse (noRow q l k y) 19
+
+-- "(h - 1) * source pitch + w; 0 bytes suffice if w or h is 0"
+abbrev pub sourceNeed : Layout → ℕ → ℕ
+sourceNeed q sp = cond (eqb (widthAt q 0) 0 || eqb (heightAt q 0) 0) 0 ((heightAt q 0 - 1) * sp + widthAt q 0)
+
+-- building, from a source of n bytes whose rows are sp apart, in a frame of len bytes, with so many bytes of spill and scratch
+unfoldable pub buildNo : Layout → ℕ → ℕ → ℕ → ℕ → ℕ → ℕ
+buildNo q n sp len spill scratch =
+    layoutNo q
+    then refuse (badPitch sp (widthAt q 0)) 9
+    then refuse (ltb n (sourceNeed q sp)) 10
+    then refuse (ltb len (writtenEnd q)) 11
+    then refuse (ltb spill (spillNeed q)) 12
+    then refuse (ltb scratch (scratchNeed q)) 13

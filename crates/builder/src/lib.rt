@@ -4,8 +4,10 @@
 //     canvas     a frame and its spill as one run of bytes
 //     rows       a row of a frame
 //     margins    clearing the margins of a frame's levels
+//     refining   the planes of level 0 between its places
 mod canvas;
 pub mod layout;
 mod levels;
 pub mod margins;
+pub mod refining;
 pub mod rows;

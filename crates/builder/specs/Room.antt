@@ -1,0 +1,40 @@
+-- What the inner calls need of the slices that they are lent. `layoutNo`, `buildNo` and the laws of proofs/ give it to each.
+use Prim.Native.Nat.{ℕ, _+_, _*_, _≤_}
+use Rattle.settings.specs.Limits.{mostSide, mostPitch}
+use Rattle.builder.specs.declared.layout.Region.{Region}
+use Rattle.builder.specs.declared.refining.Interp.{Interp}
+
+-- a source of len bytes has, from base on, 2 * h rows of n bytes, sp apart
+pub record Source (len base sp n h : ℕ) : Type 0 where
+  pub rows : base + h * (2 * sp) + n ≤ len + sp
+
+-- target level t lies in a frame of len bytes, past its source at base; scratch holds a row of it before and after it is taken apart
+pub record Within (len scratch base p : ℕ) (t : Region) : Type 0 where
+  pub some : 1 ≤ t .width
+  pub high : 2 ≤ t .height
+  pub fits : 2 * t .width ≤ p
+  pub source : base + t .height * (2 * p) ≤ t .offset
+  pub target : t .offset + t .height * p ≤ len
+  pub room : 2 * p + 2 ≤ scratch
+
+-- level 1 from a source plane of n bytes, its rows 2 * p apart in frame and spill
+pub record Spread (n sp len spill scratch p : ℕ) (t : Region) : Type 0 where
+  pub some : 1 ≤ t .width
+  pub high : 2 ≤ t .height
+  pub fits : t .width ≤ p
+  pub narrow : 2 * t .width ≤ mostSide
+  pub source : Source n 0 sp (2 * t .width) (t .height)
+  pub target : t .offset + t .height * p ≤ len
+  pub beyond : t .offset + t .height * (2 * p) ≤ len + spill
+  pub room : 2 * p + 2 ≤ scratch
+
+-- k planes lie in a frame of len bytes, from its start
+pub record Planes (k len spill scratch : ℕ) (i : Interp) : Type 0 where
+  pub wide : 2 ≤ i .width
+  pub fits : i .width ≤ i .pitch
+  pub most-pitch : i .pitch ≤ mostPitch
+  pub high : 2 ≤ i .height
+  pub most-height : i .height ≤ mostSide
+  pub inside : k * (i .height * i .pitch) ≤ len
+  pub beyond : 16 ≤ spill
+  pub room : 16 * (i .pitch + 16) ≤ scratch
