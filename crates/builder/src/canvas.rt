@@ -2,8 +2,8 @@
 // Reading, a part that is a window on it, and storing. Each run is cut once, where the frame ends, and no byte is tested by itself.
 ghost use mathlib.Core.Path.{_≡_};
 ghost use mathlib.Core.List.{_++_};
-ghost use Prim.Native.Nat.{_+_, _≤_};
-ghost use lib.ListN.{length};
+ghost use Prim.Native.Nat.{_+_, _-_, _≤_};
+ghost use lib.ListN.{length, replicate};
 ghost use Rattle.builder.specs.Canvas.{fetch, put};
 use filters::rows::copy_row;
 use filters::rows::zero_row;
@@ -94,6 +94,13 @@ pub fn put(c: &mut [u8], start: usize, row: &[u8])
 {
     let end = start + row.len();
     copy_row(&mut c[start..end], row);
+}
+
+pub fn zero_run(c: &mut [u8], start: usize, end: usize)
+    requires { ⌜ (start ≤ end) × (end ≤ length (now c)) ⌝ }
+    ensures { λ r. ⌜ now (c .exit) ≡ put (now (c .entry)) start (replicate (end - start) 0) ⌝ }
+{
+    zero_row(&mut c[start..end]);
 }
 
 // What lies past the frame goes to the spill.

@@ -4,6 +4,7 @@
 //     canvas     a frame and its spill as one run of bytes
 //     rows       a row of a frame
 //     margins    clearing the margins of a frame's levels
+//     vertical   a row of a later level before it is halved
 //     refining   the planes of level 0 between its places
 mod canvas;
 pub mod layout;
@@ -11,3 +12,4 @@ mod levels;
 pub mod margins;
 pub mod refining;
 pub mod rows;
+mod vertical;

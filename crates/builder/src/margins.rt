@@ -10,12 +10,12 @@ ghost use Rattle.builder.specs.Layout.{levelsOf, mostOffset, writtenEnd}
 ghost use Rattle.builder.specs.Margins.{cubicFits, fusedAt, clearRows, clearLevel, cleared};
 ghost use Rattle.builder.specs.Numbers.{layoutNo};
 ghost use Rattle.builder.specs.Answers.{clearAnswer};
+use crate::canvas::zero_run;
 use crate::layout::Layout;
 use crate::layout::Region;
 use crate::levels::frame_tested;
 use crate::levels::offset;
 use crate::levels::region;
-use filters::rows::zero_row;
 use settings::refusal::Tested;
 
 // Whether the fused cubic has room between its source, at base, and the frame's end.
@@ -45,13 +45,6 @@ fn fused(layout: Layout, level: u32, len: usize) -> bool
     let target = region(layout, level);
     let fits = cubic_fits(base, layout.pitch, target, len);
     (opts.scale_down == 4) & (opts.full | (level >= 2)) & fits
-}
-
-fn zero_run(frame: &mut [u8], start: usize, end: usize)
-    requires { ⌜ (start ≤ end) × (end ≤ length (now frame)) ⌝ }
-    ensures { λ r. ⌜ now (frame .exit) ≡ put (now (frame .entry)) start (replicate (end - start) 0) ⌝ }
-{
-    zero_row(&mut frame[start..end]);
 }
 
 fn clear_rows(frame: &mut [u8], target: Region, pitch: usize)

@@ -131,11 +131,11 @@ or-right : (a b : Bool) → (a || b) ≡ false → b ≡ false
 or-right true b e = absurd (let z : _≡_ {A = ℕ} 0 1 = cc in omega arith)
 or-right false b e = e
 
-past-first : (f : ReduceFilter) (i n : ℕ) → isEdge f i n ≡ false → 0 < i
+pub past-first : (f : ReduceFilter) (i n : ℕ) → isEdge f i n ≡ false → 0 < i
 past-first f zero n e = absurd (let z : _≡_ {A = ℕ} 0 1 = cc in omega arith)
 past-first f (suc i) n e = omega arith
 
-before-last : (f : ReduceFilter) (i n : ℕ) → isEdge f i n ≡ false → lastIsMean f ≡ true → i + 1 < n
+pub before-last : (f : ReduceFilter) (i n : ℕ) → isEdge f i n ≡ false → lastIsMean f ≡ true → i + 1 < n
 before-last f i n e m = leb-false n (i + 1) (rw m at (or-right (eqb i 0) (lastIsMean f && leb n (i + 1)) e))
 
 no-edge : (f : ReduceFilter) (i n : ℕ) → 0 < i → (lastIsMean f && leb n (i + 1)) ≡ false → isEdge f i n ≡ false

@@ -3,8 +3,8 @@ use Prim.Native.Nat.{_-_}
 use denote.Ref.{now}
 use borrow.Author.Needs.{needs}
 use Rattle.builder.proofs.Runs.{put-zeros}
-use Rattle.builder.proofs.margins.zero_run.Statement.{statement}
-use Rattle.builder.proofs.margins.zero_run.Tie as tie
+use Rattle.builder.proofs.canvas.zero_run.Statement.{statement}
+use Rattle.builder.proofs.canvas.zero_run.Tie as tie
 
 sub-zero-row : tie.Need-sub-zero-row
 sub-zero-row c = search needs
@@ -22,7 +22,7 @@ same-length : tie.Need-same-length
 same-length c = search needs
 
 returns : tie.Need-returns
-returns c = let s = c .before .before .before .before .before in put-zeros (now (s .args .frame)) _ (s .args .start) (s .args .end) (s .pre .0) (s .pre .1) (c .before .before .zero-row .ensures)
+returns c = let s = c .before .before .before .before .before in put-zeros (now (s .args .c)) _ (s .args .start) (s .args .end) (s .pre .0) (s .pre .1) (c .before .before .zero-row .ensures)
 
 pub zero-run-spec : {M : Type 1} → statement M
 zero-run-spec =

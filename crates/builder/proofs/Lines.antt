@@ -1,0 +1,138 @@
+-- One row of a later level before it is halved: the rows that it reads lie in the source, and others have no effect. Assumes nothing.
+use mathlib.Core.Path.{_≡_, refl, sym, ap, _∙_}
+use mathlib.Core.Bool.{true, false}
+use mathlib.Core.List.{List, _++_, append-nil}
+use Prim.Native.Nat.{ℕ, _+_, _*_, _-_, _≤_, _<_, min}
+use native.Mathlib.Nat.{add-mul, one-mul}
+use native.Mathlib.Omega.{arith}
+use lib.ListN.{length, take, drop, drop-of-length-le}
+use lib.Seq.{length-take-le}
+use Rattle.filters.specs.declared.halving.ReduceFilter.{ReduceFilter}
+use Rattle.filters.specs.declared.halving.ReduceFilter.the-variants.{Average, Bilinear, Quadratic, Cubic}
+use Rattle.filters.specs.Row.{Six, tab, meansOf, sixes}
+use Rattle.filters.specs.Halve.{firstRow, lastRow, lastIsMean, isEdge, weigh}
+use Rattle.filters.proofs.Kernels.{rows-read}
+use Rattle.filters.proofs.Pairs.{past-first, before-last}
+use Rattle.filters.proofs.Lengths.{sixes-length}
+use Rattle.builder.specs.Canvas.{fetch}
+use Rattle.builder.specs.Room.{Source}
+use Rattle.builder.specs.Halving.{wholeOf, wholeLine, restLine, innerLine, verticalLine}
+use Rattle.builder.proofs.Runs.{two-parts, rest-length, row-in}
+
+-- ---- how far a filter reads
+first-near : (f : ReduceFilter) (sp : ℕ) → firstRow f * sp ≤ 2 * sp
+first-near Average sp = omega arith
+first-near Bilinear sp = omega arith
+first-near Quadratic sp = omega arith
+first-near Cubic sp = omega arith
+
+last-near : (f : ReduceFilter) (sp : ℕ) → (sp ≤ lastRow f * sp) × (min (lastRow f) 2 * sp ≤ lastRow f * sp)
+last-near Average sp = (omega arith, omega arith)
+last-near Bilinear sp = (omega arith, omega arith)
+last-near Quadratic sp = (omega arith, omega arith)
+last-near Cubic sp = (omega arith, omega arith)
+
+pub first-reach : (f : ReduceFilter) {first : ℕ} (sp : ℕ) → first ≡ firstRow f → first * sp ≤ 2 * sp
+first-reach f sp e = rw e (first-near f sp)
+
+-- sp, the second row and the last
+pub last-reach : (f : ReduceFilter) {last : ℕ} (sp : ℕ) → last ≡ lastRow f → (sp ≤ lastRow f * sp) × (last * sp ≡ lastRow f * sp)
+last-reach f sp e = (last-near f sp .0, rw e)
+
+pub second-reach : (f : ReduceFilter) {second last : ℕ} (sp : ℕ) → second ≡ min last 2 → last ≡ lastRow f → second * sp ≤ lastRow f * sp
+second-reach f sp e g = rw (e, g) (last-near f sp .1)
+
+first-is : (f : ReduceFilter) → 2 ≤ firstRow f → firstRow f ≡ 2
+first-is Average le = absurd (omega arith)
+first-is Bilinear le = absurd (omega arith)
+first-is Quadratic le = refl
+first-is Cubic le = refl
+
+second-is : (f : ReduceFilter) → 2 ≤ lastRow f → min (lastRow f) 2 ≡ 2
+second-is Average le = absurd (omega arith)
+second-is Bilinear le = refl
+second-is Quadratic le = refl
+second-is Cubic le = refl
+
+last-is : (f : ReduceFilter) → 3 ≤ lastRow f → lastRow f ≡ 3
+last-is Average le = absurd (omega arith)
+last-is Bilinear le = absurd (omega arith)
+last-is Quadratic le = refl
+last-is Cubic le = refl
+
+-- the columns by rows alone, from the rows that the filter reads
+pub whole-read : (f : ReduceFilter) (n : ℕ) (s : List ℕ) (at sp : ℕ) {first second last : ℕ} {m2 m1 c0 p1 p2 p3 : List ℕ} → first ≡ firstRow f → second ≡ min last 2 → last ≡ lastRow f → m2 ≡ fetch s (at - first * sp) n → m1 ≡ fetch s (at - sp) n → c0 ≡ fetch s at n → p1 ≡ fetch s (at + sp) n → p2 ≡ fetch s (at + second * sp) n → p3 ≡ fetch s (at + last * sp) n → sixes (weigh f) n m2 m1 c0 p1 p2 p3 ≡ wholeLine f n s at sp
+unfolding wholeLine
+whole-read f n s at sp {first} {second} {last} {m2} {m1} {c0} {p1} {p2} {p3} ef es el e2 e1 e0 d1 d2 d3 =
+    rw (e1, e0, d1)
+    (rows-read f n (fetch s (at - sp) n) (fetch s at n) (fetch s (at + sp) n)
+    (λ le. e2 ∙ ap (λ (k : ℕ). fetch s (at - k * sp) n) (ef ∙ first-is f le))
+    (λ le. d2 ∙ ap (λ (k : ℕ). fetch s (at + k * sp) n) (es ∙ ap (λ (k : ℕ). min k 2) el ∙ second-is f le))
+    (λ le. d3 ∙ ap (λ (k : ℕ). fetch s (at + k * sp) n) (el ∙ last-is f le)))
+
+-- ---- the other columns
+pub sixes-same : (k : Six) (n : ℕ) {m2 m1 c0 p1 p2 p3 x2 x1 x0 y1 y2 y3 : List ℕ} → m2 ≡ x2 → m1 ≡ x1 → c0 ≡ x0 → p1 ≡ y1 → p2 ≡ y2 → p3 ≡ y3 → sixes k n m2 m1 c0 p1 p2 p3 ≡ sixes k n x2 x1 x0 y1 y2 y3
+sixes-same k n a b c d e f = cc
+
+-- ---- the row
+pub line-edge : (f : ReduceFilter) (whole n h : ℕ) (s : List ℕ) (base sp y : ℕ) {a b : List ℕ} → isEdge f y h ≡ true → a ≡ fetch s (base + y * (2 * sp)) n → b ≡ fetch s (base + y * (2 * sp) + sp) n → meansOf n a b ≡ verticalLine f whole n h s base sp y
+unfolding verticalLine
+line-edge f whole n h s base sp y e p q = rw (e, p, q)
+
+pub line-inner : (f : ReduceFilter) (whole n h : ℕ) (s : List ℕ) (base sp y : ℕ) → isEdge f y h ≡ false → innerLine f whole n s (base + y * (2 * sp)) sp ≡ verticalLine f whole n h s base sp y
+unfolding verticalLine
+line-inner f whole n h s base sp y e = rw e
+
+-- columns past the whole ones are the cubic's
+pub rest-reach : (f : ReduceFilter) (n sp : ℕ) {k : ℕ} → k ≡ wholeOf f n → (k ≡ n → ⊥) → lastRow f * sp ≡ 3 * sp
+rest-reach Average n sp e ne = absurd (ne e)
+rest-reach Bilinear n sp e ne = absurd (ne e)
+rest-reach Quadratic n sp e ne = absurd (ne e)
+rest-reach Cubic n sp e ne = refl
+
+whole-length : (f : ReduceFilter) (n : ℕ) (s : List ℕ) (at sp : ℕ) → length (wholeLine f n s at sp) ≡ n
+unfolding wholeLine
+whole-length f n s at sp = sixes-length (weigh f) n _ _ _ _ _ _
+
+-- the row was lent up to column k, and came back as l
+module _ (f : ReduceFilter) (s : List ℕ) (at sp : ℕ) (out l : List ℕ) (k : ℕ) (is : k ≡ wholeOf f (length out)) (fits : k ≤ length out) (front : l ≡ wholeLine f (length (take k out)) s at sp) where
+  front-is : l ≡ wholeLine f (wholeOf f (length out)) s at sp
+  front-is = front ∙ ap (λ (n : ℕ). wholeLine f n s at sp) (length-take-le k out fits ∙ is)
+
+  front-length : length l ≡ k
+  front-length = ap length front-is ∙ whole-length f (wholeOf f (length out)) s at sp ∙ sym is
+
+  pub inner-all : k ≡ length out → l ++ drop k out ≡ innerLine f (wholeOf f (length out)) (length out) s at sp
+  unfolding innerLine restLine sixes tab
+  inner-all all =
+      let none : length out - wholeOf f (length out) ≡ 0 = omega arith in
+      ap (λ (x : List ℕ). l ++ x) (drop-of-length-le out (let le : length out ≤ k = omega arith in le))
+      ∙ append-nil l
+      ∙ front-is
+      ∙ rw none (sym (append-nil (wholeLine f (wholeOf f (length out)) s at sp)))
+
+  -- then from column k on, and came back as m
+  pub inner-both : (m : List ℕ) → m ≡ restLine (length (take (length (l ++ drop k out) - k) (drop k (l ++ drop k out)))) s (at + k) sp → take k (l ++ drop k out) ++ (m ++ drop (length (l ++ drop k out) - k) (drop k (l ++ drop k out))) ≡ innerLine f (wholeOf f (length out)) (length out) s at sp
+  unfolding innerLine
+  inner-both m e =
+      two-parts out l m k fits front-length
+      ∙ ap (λ (x : List ℕ). x ++ m) front-is
+      ∙ ap (λ (x : List ℕ). wholeLine f (wholeOf f (length out)) s at sp ++ x) (e ∙ ap (λ (n : ℕ). restLine n s (at + k) sp) (rest-length out l m k fits front-length) ∙ ap (λ (n : ℕ). restLine (length out - n) s (at + n) sp) is)
+
+-- ---- the rows that it reads
+-- an edge reads two rows
+pub edge-reach : {len base sp n h y : ℕ} → Source len base sp n h → y < h → base + y * (2 * sp) + sp + n ≤ len
+edge-reach {len} {base} {sp} {n} {h} {y} s lt = omega (arith, s .rows, row-in y h (2 * sp) lt)
+
+next-row : (y h sp : ℕ) → y + 1 < h → y * (2 * sp) + 4 * sp ≤ h * (2 * sp)
+next-row y h sp lt = omega (arith, row-in (y + 1) h (2 * sp) lt, add-mul y 1 (2 * sp), one-mul (2 * sp))
+
+below-reach : (f : ReduceFilter) {len base sp n h y : ℕ} → Source len base sp n h → y < h → (lastIsMean f ≡ true → y + 1 < h) → base + y * (2 * sp) + lastRow f * sp + n ≤ len
+below-reach Average {sp = sp} {h = h} {y = y} s lt more = omega (arith, s .rows, row-in y h (2 * sp) lt)
+below-reach Bilinear {sp = sp} {h = h} {y = y} s lt more = omega (arith, s .rows, next-row y h sp (more refl))
+below-reach Quadratic {sp = sp} {h = h} {y = y} s lt more = omega (arith, s .rows, next-row y h sp (more refl))
+below-reach Cubic {sp = sp} {h = h} {y = y} s lt more = omega (arith, s .rows, next-row y h sp (more refl))
+
+-- another row as many as its filter
+pub inner-reach : (f : ReduceFilter) {len base sp n h y : ℕ} → Source len base sp n h → y < h → isEdge f y h ≡ false → (2 * sp ≤ base + y * (2 * sp)) × (base + y * (2 * sp) + lastRow f * sp + n ≤ len)
+inner-reach f {base = base} {sp = sp} {h = h} {y = y} s lt e = (omega (arith, row-in 0 y (2 * sp) (past-first f y h e)), below-reach f s lt (before-last f y h e))
