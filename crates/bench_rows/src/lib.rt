@@ -1,6 +1,7 @@
-// The row functions for a program in C: what bench/run links and counts. Each is the call of `filters` of its name, on rows of 1,920 bytes.
+// The row functions for a program in C: what bench/run links and counts. Each is the call of `filters` of its name, on rows of 1,920 bytes; a row is halved by two calls.
 use filters::half_pel::HalfPel;
 use filters::halving::ReduceFilter;
+use filters::halving::deinterleave;
 use filters::rows::copy_row;
 use filters::rows::mean_row;
 use filters::rows::zero_row;
@@ -57,7 +58,8 @@ pub extern "C" fn row_halved(
     src: &[u8; 1920],
     split: &mut [u8; 1922],
 ) {
-    filter(k).reduce_row(out, src, split);
+    deinterleave(split, src, 960);
+    filter(k).reduce_row(out, split);
 }
 
 #[no_mangle]

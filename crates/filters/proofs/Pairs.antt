@@ -1,9 +1,9 @@
--- A row of pairs halved: byte 0 replaced by output 0, the row taken apart, the weights over its parts, and the places that are means. Assumes nothing.
+-- A row of pairs halved: byte 0 replaced by output 0, the row taken apart, the weights over its parts, and that with the edges this is document 01's row. Assumes nothing.
 use mathlib.Core.Path.{_≡_, refl, sym, ap, _∙_}
-use mathlib.Core.Bool.{Bool, true, false, cond, _&&_, _||_}
+use mathlib.Core.Bool.{Bool, true, false, cond, _&&_}
 use mathlib.Core.List.{List}
 use mathlib.Core.Logic.{⊎-elim}
-use Prim.Native.Nat.{ℕ, zero, suc, _+_, _*_, _-_, _≤_, _<_}
+use Prim.Native.Nat.{ℕ, _+_, _*_, _-_, _≤_, _<_}
 use native.Mathlib.Omega.{arith}
 use lib.Dec.{leb, eqb}
 use lib.ListN.{length, getD, set, drop, length-set, length-drop}
@@ -12,9 +12,10 @@ use borrow.Author.Tests.{ne-eqb, le-leb, lt-leb, leb-false}
 use Rattle.filters.specs.declared.halving.ReduceFilter.{ReduceFilter}
 use Rattle.filters.specs.declared.halving.ReduceFilter.the-variants.{Average, Bilinear, Quadratic, Cubic}
 use Rattle.filters.specs.Row.{Reach, meanOf, sixAt, sixes, around}
-use Rattle.filters.specs.Halve.{lastIsMean, isEdge, weigh, Apart, weighedApart, edgedAt, edged, headed, horizontalAt, horizontalRow}
+use Rattle.filters.specs.Halve.{lastIsMean, isEdge, weigh, headed, horizontalAt, horizontalRow, Apart, weighedApart, withLast, reducedApart}
 use Rattle.filters.proofs.Tests.{below-or, and-no, or-yes}
-use Rattle.filters.proofs.Tables.{is-tab, tab-at, tab-ext}
+use Rattle.filters.proofs.Tables.{is-tab, tab-at}
+use Rattle.filters.proofs.Lengths.{sixes-length}
 
 headed-first : (v : List ℕ) → 0 < length v → meanOf (getD v 0 0) (getD v 1 0) ≡ getD (headed v) 0 0
 unfolding headed
@@ -126,56 +127,67 @@ module _ {n : ℕ} {w s : List ℕ} (h : Apart n n w s) (i : ℕ) (more : 0 < i)
   taps Quadratic l = six-taps Quadratic (l refl)
   taps Cubic l = six-taps Cubic (l refl)
 
--- ---- edges
-or-right : (a b : Bool) → (a || b) ≡ false → b ≡ false
-or-right true b e = absurd (let z : _≡_ {A = ℕ} 0 1 = cc in omega arith)
-or-right false b e = e
+-- ---- the halved row, from its pairs taken apart
+cond-length : (t : Bool) (a b : List ℕ) → length a ≡ length b → length (cond t a b) ≡ length b
+cond-length true a b e = e
+cond-length false a b e = refl
 
-pub past-first : (f : ReduceFilter) (i n : ℕ) → isEdge f i n ≡ false → 0 < i
-past-first f zero n e = absurd (let z : _≡_ {A = ℕ} 0 1 = cc in omega arith)
-past-first f (suc i) n e = omega arith
+with-last-length : (f : ReduceFilter) (n : ℕ) (s o : List ℕ) → length (withLast f n s o) ≡ length o
+with-last-length f n s o = cond-length (lastIsMean f) _ o (length-set o (n - 1) _)
 
-pub before-last : (f : ReduceFilter) (i n : ℕ) → isEdge f i n ≡ false → lastIsMean f ≡ true → i + 1 < n
-before-last f i n e m = leb-false n (i + 1) (rw m at (or-right (eqb i 0) (lastIsMean f && leb n (i + 1)) e))
+-- the weights, the last place, and then the first
+pub reduced : (f : ReduceFilter) (n : ℕ) (s : List ℕ) {w l : List ℕ} → w ≡ weighedApart f n s → l ≡ withLast f (length w) s w → set l 0 (getD s 1 0) ≡ reducedApart f n s
+unfolding reducedApart
+reduced f n s {w} {l} weights last =
+    let long : length w ≡ n = ap length weights ∙ sixes-length (weigh f) n s (drop n s) (drop 1 s) (drop (n + 1) s) (drop 2 s) (drop (n + 2) s) in
+    ap (λ (k : List ℕ). set k 0 (getD s 1 0)) (last ∙ ap (λ (k : ℕ). withLast f k s w) long ∙ ap (withLast f n s) weights)
 
-no-edge : (f : ReduceFilter) (i n : ℕ) → 0 < i → (lastIsMean f && leb n (i + 1)) ≡ false → isEdge f i n ≡ false
-no-edge f i n more e = rw (ne-eqb i 0 (λ z. omega arith)) e
+module _ (f : ReduceFilter) (n : ℕ) (v : List ℕ) (i : ℕ) where
+  by-mean : isEdge f i n ≡ true → meanOf (getD v (2 * i) 0) (getD v (2 * i + 1) 0) ≡ horizontalAt f n v i
+  unfolding horizontalAt
+  by-mean e = rw e
 
-cond-else : (t : Bool) (a : ℕ) {b c : ℕ} → (t ≡ false → b ≡ c) → cond t a b ≡ cond t a c
-cond-else true a h = refl
-cond-else false a h = h refl
+  by-weights : isEdge f i n ≡ false → around (weigh f) (headed v) (2 * i) ≡ horizontalAt f n v i
+  unfolding horizontalAt
+  by-weights e = rw e
 
--- the weights over the parts, with the means at the edges
-pub halved : (f : ReduceFilter) {n : ℕ} (v : List ℕ) {s o : List ℕ} → Apart n n (headed v) s → o ≡ weighedApart f n s → edged f n v o ≡ horizontalRow f n v
-unfolding edged edgedAt horizontalRow horizontalAt sixes
-halved f {n} v {s} {o} h is =
-    tab-ext (edgedAt f n v o) (horizontalAt f n v) n
-    (λ i lt.
-    cond-else (isEdge f i n) (meanOf (getD v (2 * i) 0) (getD v (2 * i + 1) 0))
-    (λ e. ap (λ (l : List ℕ). getD l i 0) is ∙ tab-at _ n i lt ∙ taps h i (past-first f i n e) lt f (before-last f i n e)))
+module _ (f : ReduceFilter) {n : ℕ} (v : List ℕ) {s : List ℕ} (some : 0 < n) (fits : 2 * n ≤ length v) (h : Apart n n (headed v) s) where
+  first : getD s 1 0 ≡ horizontalAt f n v 0
+  first = h .evens 0 some ∙ sym (headed-first v (omega arith)) ∙ by-mean f n v 0 refl
 
-module _ (f : ReduceFilter) {n x : ℕ} (v o : List ℕ) (long : length o ≡ n) (some : 0 < n) (first : x ≡ meanOf (getD v 0 0) (getD v 1 0)) where
-  with-first : (i : ℕ) → (0 < i → isEdge f i n ≡ false) → getD (set o 0 x) i 0 ≡ edgedAt f n v o i
-  unfolding edgedAt
-  with-first i h =
-      ⊎-elim
-      (λ (later : 0 < i). getD-set-other o 0 i x 0 (λ e. omega arith) ∙ rw (h later))
-      (λ (z : i ≤ 0). let e : i ≡ 0 = omega arith in rw e (getD-set-same o 0 x 0 (omega arith) ∙ first))
-      (below-or 0 i)
+  -- the last pair, but for byte 0
+  last : 1 < n → meanOf (getD s n 0) (getD s (2 * n) 0) ≡ meanOf (getD v (2 * (n - 1)) 0) (getD v (2 * (n - 1) + 1) 0)
+  last many =
+      let even : getD s n 0 ≡ getD v (2 * (n - 1)) 0 = at s (omega arith) ∙ h .evens (n - 1) (omega arith) ∙ sym (headed-later v (2 * (n - 1)) (omega arith)) in
+      let odd : getD s (2 * n) 0 ≡ getD v (2 * (n - 1) + 1) 0 = at s (omega arith) ∙ h .odds (n - 1) (omega arith) ∙ sym (headed-later v (2 * (n - 1) + 1) (omega arith)) in
+      rw (even, odd)
 
-  pub edged-first : lastIsMean f ≡ false → set o 0 x ≡ edged f n v o
-  unfolding edged
-  edged-first m = is-tab (set o 0 x) (edgedAt f n v o) n (length-set o 0 x ∙ long) (λ i lt. with-first i (λ later. no-edge f i n later (rw m)))
+  weighed : (i : ℕ) → 0 < i → i < n → (lastIsMean f && leb n (i + 1)) ≡ false → getD (weighedApart f n s) i 0 ≡ horizontalAt f n v i
+  unfolding sixes
+  weighed i more lt e = tab-at _ n i lt ∙ taps h i more lt f (λ m. leb-false n (i + 1) (rw m at e)) ∙ by-weights f n v i (rw (ne-eqb i 0 (λ z. omega arith)) e)
 
-  pub edged-both : {y : ℕ} → lastIsMean f ≡ true → y ≡ meanOf (getD v (2 * (n - 1)) 0) (getD v (2 * (n - 1) + 1) 0) → set (set o 0 x) (n - 1) y ≡ edged f n v o
-  unfolding edged edgedAt
-  edged-both {y} m last =
-      is-tab (set (set o 0 x) (n - 1) y) (edgedAt f n v o) n (length-set (set o 0 x) (n - 1) y ∙ length-set o 0 x ∙ long)
-      (λ i lt.
-      ⊎-elim
-      (λ (less : i < n - 1). getD-set-other (set o 0 x) (n - 1) i y 0 (λ e. omega arith) ∙ with-first i (λ later. no-edge f i n later (rw (lt-leb n (i + 1) (omega arith)) (and-no (lastIsMean f)))))
+  later : (t : Bool) → lastIsMean f ≡ t → (i : ℕ) → 0 < i → i < n → getD (withLast f n s (weighedApart f n s)) i 0 ≡ horizontalAt f n v i
+  later false m i more lt = rw m (weighed i more lt (rw m))
+  later true m i more lt =
+      let w = weighedApart f n s in
+      let y = meanOf (getD s n 0) (getD s (2 * n) 0) in
+      rw m
+      (⊎-elim
+      (λ (less : i < n - 1). getD-set-other w (n - 1) i y 0 (λ e. omega arith) ∙ weighed i more lt (rw (lt-leb n (i + 1) (omega arith)) (and-no (lastIsMean f))))
       (λ (le : n - 1 ≤ i).
       let e : i ≡ n - 1 = omega arith in
       let edge : isEdge f (n - 1) n ≡ true = rw (m, le-leb n (n - 1 + 1) (omega arith)) (or-yes (eqb (n - 1) 0)) in
-      rw (e, edge) (getD-set-same (set o 0 x) (n - 1) y 0 (omega (arith, length-set o 0 x)) ∙ last))
+      rw e (getD-set-same w (n - 1) y 0 (omega (arith, sixes-length (weigh f) n s (drop n s) (drop 1 s) (drop (n + 1) s) (drop 2 s) (drop (n + 2) s))) ∙ last (omega arith) ∙ by-mean f n v (n - 1) edge))
       (below-or i (n - 1)))
+
+  pub reduced-apart : reducedApart f n s ≡ horizontalRow f n v
+  unfolding reducedApart horizontalRow
+  reduced-apart =
+      let w = withLast f n s (weighedApart f n s) in
+      let long : length w ≡ n = with-last-length f n s (weighedApart f n s) ∙ sixes-length (weigh f) n _ _ _ _ _ _ in
+      is-tab (set w 0 (getD s 1 0)) (horizontalAt f n v) n (length-set w 0 (getD s 1 0) ∙ long)
+      (λ i lt.
+      ⊎-elim
+      (λ (more : 0 < i). getD-set-other w 0 i (getD s 1 0) 0 (λ e. omega arith) ∙ later (lastIsMean f) refl i more lt)
+      (λ (le : i ≤ 0). let e : i ≡ 0 = omega arith in rw e (getD-set-same w 0 (getD s 1 0) 0 (omega arith) ∙ first))
+      (below-or 0 i))

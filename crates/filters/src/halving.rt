@@ -4,7 +4,7 @@ ghost use mathlib.Core.Path.{_≡_};
 ghost use Prim.Native.Nat.{_+_, _*_, _≤_, _<_};
 ghost use lib.ListN.{length};
 ghost use Rattle.filters.specs.Row.{Low, Reach, sixes};
-ghost use Rattle.filters.specs.Halve.{chosen, firstRow, lastRow, lastIsMean, isEdge, weigh, restOf, Apart, weighedApart, edged, horizontalRow};
+ghost use Rattle.filters.specs.Halve.{chosen, firstRow, lastRow, lastIsMean, isEdge, weigh, restOf, Apart, headed, weighedApart, withLast, reducedApart};
 
 pub enum ReduceFilter {
     Average,
@@ -200,48 +200,51 @@ impl ReduceFilter {
     }
 
     // The weights at every place of a row taken apart. Past either end of the row they see whatever stands there.
-    fn weigh_apart(self, out: &mut [u8], s: &[u8])
-        requires { ⌜ 2 * length (now out) + 2 ≤ length (now s) ⌝ }
-        ensures { λ r. ⌜ now (out .exit) ≡ weighedApart self (length (now (out .entry))) (now (s .entry)) ⌝ }
+    fn weigh_apart(self, out: &mut [u8], split: &[u8])
+        requires { ⌜ 2 * length (now out) + 2 ≤ length (now split) ⌝ }
+        ensures { λ r. ⌜ now (out .exit) ≡ weighedApart self (length (now (out .entry))) (now (split .entry)) ⌝ }
     {
         let n = out.len();
         self.vertical_filter(
             out,
-            s,
-            rest(s, n),
-            rest(s, 1),
-            rest(s, n + 1),
-            rest(s, 2),
-            rest(s, n + 2),
+            split,
+            rest(split, n),
+            rest(split, 1),
+            rest(split, n + 1),
+            rest(split, 2),
+            rest(split, n + 2),
         );
     }
 
-    // The places of a halved row that are means of their pairs; the others stay.
-    fn put_means(self, out: &mut [u8], src: &[u8])
-        requires { ⌜ (0 < length (now out)) × (2 * length (now out) ≤ length (now src)) ⌝ }
-        ensures { λ r. ⌜ now (out .exit) ≡ edged self (length (now (out .entry))) (now (src .entry)) (now (out .entry)) ⌝ }
+    // The last place, for all but average the mean of the last pair; the others stay.
+    fn put_last(self, out: &mut [u8], split: &[u8])
+        requires { ⌜ (0 < length (now out)) × (2 * length (now out) < length (now split)) ⌝ }
+        ensures { λ r. ⌜ now (out .exit) ≡ withLast self (length (now (out .entry))) (now (split .entry)) (now (out .entry)) ⌝ }
     {
-        let last = out.len() - 1;
-        out[0] = mean(src[0], src[1]);
+        let n = out.len();
         if self.last_is_mean() {
-            out[last] = mean(src[2 * last], src[2 * last + 1]);
+            out[n - 1] = mean(split[n], split[2 * n]);
         }
     }
 
-    // A row of pairs, halved. `split` is room to take it apart in, since the weights are quick over contiguous bytes. They run over the edges too, which are written again: without those a loop would leave the most places past whole vectors.
-    pub fn reduce_row(self, out: &mut [u8], src: &[u8], split: &mut [u8])
-        requires { ⌜ (2 * length (now out) ≤ length (now src)) × (2 * length (now out) + 2 ≤ length (now split)) ⌝ }
-        ensures { λ r. ⌜ now (out .exit) ≡ horizontalRow self (length (now (out .entry))) (now (src .entry)) ⌝ }
+    // A row of pairs, halved, from what `deinterleave` made of it. The weights run over the edges too, which are written again: without those a loop would leave the most places past whole vectors. The first place is stored last, since it may be the last place too.
+    pub fn reduce_row(self, out: &mut [u8], split: &[u8])
+        requires { ⌜ (0 < length (now out)) × (2 * length (now out) + 2 ≤ length (now split)) ⌝ }
+        ensures { λ r. ⌜ now (out .exit) ≡ reducedApart self (length (now (out .entry))) (now (split .entry)) ⌝ }
     {
-        let n = out.len();
-        if n == 0 {
-            return;
-        }
-        take_apart(split, src, n);
-        split[1] = mean(src[0], src[1]);
         self.weigh_apart(out, split);
-        self.put_means(out, src);
+        self.put_last(out, split);
+        out[0] = split[1];
     }
+}
+
+// n pairs taken apart, since the weights are quick over contiguous bytes; byte 0 is replaced by output 0.
+pub fn deinterleave(split: &mut [u8], src: &[u8], n: usize)
+    requires { ⌜ (0 < n) × (2 * n ≤ length (now src)) × (2 * n + 2 ≤ length (now split)) ⌝ }
+    ensures { λ r. ⌜ Apart n n (headed (now (src .entry))) (now (split .exit)) ⌝ }
+{
+    take_apart(split, src, n);
+    split[1] = mean(src[0], src[1]);
 }
 
 // The even bytes of n pairs from place 1 on, and then the odd ones.

@@ -9,6 +9,7 @@ use filters::half_pel::HalfPel;
 use filters::halving::Chosen;
 use filters::halving::ReduceFilter;
 use filters::halving::cubic_rest;
+use filters::halving::deinterleave;
 use filters::rows::copy_row;
 use filters::rows::mean_row;
 use filters::rows::zero_row;
@@ -165,8 +166,13 @@ fn weigh(f: ReduceFilter, out: &mut [u8], rows: &[u8])
 fn halve(f: ReduceFilter, out: &mut [u8], rows: &[u8])
     requires { ⌜ (length (now out) ≤ 4096) × (2 * length (now out) ≤ length (now rows)) ⌝ }
 {
+    let n = out.len();
+    if n == 0 {
+        return;
+    }
     let mut split = [0u8; 8194];
-    f.reduce_row(out, rows, &mut split);
+    deinterleave(&mut split, rows, n);
+    f.reduce_row(out, &split);
 }
 
 fn rest(out: &mut [u8], rows: &[u8])
