@@ -1,7 +1,7 @@
 -- `ReduceFilter::reduce_row` meets its contract. Assumes nothing.
 use mathlib.Core.Path.{_∙_}
 use denote.Ref.{now}
-use lib.ListN.{length, getD, length-set}
+use lib.ListN.{length, length-set}
 use borrow.Author.Needs.{needs}
 use Rattle.filters.proofs.Pairs.{reduced}
 use Rattle.filters.proofs.halving.ReduceFilter.reduce_row.Statement.{statement}
@@ -20,7 +20,7 @@ slice-write-out : tie.Need-slice-write-out
 slice-write-out c = search needs
 
 same-length : tie.Need-same-length
-same-length c = let a = c .before .before .before .before .before .before .before .before .before .before .before .args in let p = c .before .before .before .put-last in length-set (p .last .1 .0) 0 (getD (now (a .split)) 1 0) ∙ p .kept .1 .0 ∙ c .before .before .before .before .before .before .before .weigh-apart .kept .1 .0
+same-length c = simp length-set (c .before .before .before .put-last .kept .1 .0 ∙ c .before .before .before .before .before .before .before .weigh-apart .kept .1 .0)
 
 returns : tie.Need-returns
 returns c = let a = c .before .before .before .before .before .before .before .before .before .before .before .args in reduced (a .self) (length (now (a .out))) (now (a .split)) (c .before .before .before .before .before .before .before .weigh-apart .ensures) (c .before .before .before .put-last .ensures)
