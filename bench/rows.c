@@ -22,15 +22,16 @@ BOTH(half_down, uint32_t, uint8_t *, SIX)
 static row in[6], out;
 static uint8_t split[N + 2];
 
-static void run(int ours, const char *f, uint32_t k) {
-#define CALL(name, ...) if (!strcmp(f, #name)) { if (ours) row_##name(__VA_ARGS__); else rust_##name(__VA_ARGS__); return; }
-    CALL(means, out, in[0], in[1])
-    CALL(copy, out, in[0])
-    CALL(zero, out)
-    CALL(vertical, k, out, in[0], in[1], in[2], in[3], in[4], in[5])
-    if (!strcmp(f, "halved")) { if (ours) row_halved(k, out, in[0], split); else rust_halved(k, out, in[0]); return; }
-    CALL(half_along, k, out, in[0])
-    CALL(half_down, k, out, in[0], in[1], in[2], in[3], in[4], in[5])
+static void run(int ours, const char *f, uint32_t k, long repeats) {
+#define CALL(name, mine, theirs) if (!strcmp(f, #name)) { if (ours) for (; repeats > 0; repeats--) row_##name mine; else for (; repeats > 0; repeats--) rust_##name theirs; return; }
+#define ALIKE(name, ...) CALL(name, (__VA_ARGS__), (__VA_ARGS__))
+    ALIKE(means, out, in[0], in[1])
+    ALIKE(copy, out, in[0])
+    ALIKE(zero, out)
+    ALIKE(vertical, k, out, in[0], in[1], in[2], in[3], in[4], in[5])
+    CALL(halved, (k, out, in[0], split), (k, out, in[0]))
+    ALIKE(half_along, k, out, in[0])
+    ALIKE(half_down, k, out, in[0], in[1], in[2], in[3], in[4], in[5])
     fprintf(stderr, "no such function: %s\n", f);
     exit(2);
 }
@@ -38,10 +39,10 @@ static void run(int ours, const char *f, uint32_t k) {
 static void same(const char *f, uint32_t k) {
     row want;
     memset(out, 1, N);
-    run(0, f, k);
+    run(0, f, k, 1);
     memcpy(want, out, N);
     memset(out, 1, N);
-    run(1, f, k);
+    run(1, f, k, 1);
     if (memcmp(want, out, N)) { printf("%s %u: another row\n", f, k); exit(1); }
 }
 
@@ -55,6 +56,6 @@ int main(int argc, char **argv) {
         return 0;
     }
     if (argc != 5) return 2;
-    for (long n = atol(argv[4]); n > 0; n--) run(!strcmp(argv[1], "ours"), argv[2], (uint32_t)atoi(argv[3]));
+    run(!strcmp(argv[1], "ours"), argv[2], (uint32_t)atoi(argv[3]), atol(argv[4]));
     return 0;
 }

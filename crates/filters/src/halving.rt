@@ -20,6 +20,7 @@ pub enum Chosen {
 }
 
 // A filter's constants: the first row that it reads, counted up from the source row, and the last, counted down; whether the last output is a mean; and the rounding term.
+// `weigh` shifts in two steps, which takes fewer instructions on vectors: what counts 2, 4 or 8 times is added once, after the rest is shifted by 1, 2 or 3. The bits that the rest loses can't reach the result.
 pub struct Average;
 
 pub struct Bilinear;
@@ -41,7 +42,7 @@ impl Average {
         requires { ⌜ Low 0 m1 c0 p1 0 0 ⌝ }
         ensures { λ r. ⌜ r ≡ weigh ReduceFilter.Average 0 m1 c0 p1 0 0 ⌝ }
     {
-        ((m1 + 2 * c0 + p1 + Average::ROUND) >> 2) as u8
+        ((((m1 + p1) >> 1) + c0 + Average::ROUND / 2) >> 1) as u8
     }
 }
 
@@ -58,7 +59,8 @@ impl Bilinear {
         requires { ⌜ Low 0 m1 c0 p1 p2 0 ⌝ }
         ensures { λ r. ⌜ r ≡ weigh ReduceFilter.Bilinear 0 m1 c0 p1 p2 0 ⌝ }
     {
-        ((m1 + 3 * (c0 + p1) + p2 + Bilinear::ROUND) >> 3) as u8
+        let inner = c0 + p1;
+        ((((m1 + p2 + inner + Bilinear::ROUND) >> 1) + inner) >> 2) as u8
     }
 }
 
@@ -75,7 +77,8 @@ impl Quadratic {
         requires { ⌜ Low m2 m1 c0 p1 p2 p3 ⌝ }
         ensures { λ r. ⌜ r ≡ weigh ReduceFilter.Quadratic m2 m1 c0 p1 p2 p3 ⌝ }
     {
-        ((m2 + 9 * (m1 + p2) + 22 * (c0 + p1) + p3 + Quadratic::ROUND) >> 6) as u8
+        let outer = m1 + p2;
+        ((((m2 + p3 + outer + 22 * (c0 + p1) + Quadratic::ROUND) >> 3) + outer) >> 3) as u8
     }
 }
 
@@ -92,7 +95,8 @@ impl Cubic {
         requires { ⌜ Low m2 m1 c0 p1 p2 p3 ⌝ }
         ensures { λ r. ⌜ r ≡ weigh ReduceFilter.Cubic m2 m1 c0 p1 p2 p3 ⌝ }
     {
-        ((m2 + 5 * (m1 + p2) + 10 * (c0 + p1) + p3 + Cubic::ROUND) >> 5) as u8
+        let inner = m1 + p2 + 2 * (c0 + p1);
+        ((((m2 + p3 + inner + Cubic::ROUND) >> 2) + inner) >> 3) as u8
     }
 }
 
