@@ -1,8 +1,8 @@
--- Laws of the canvas: what is read of two lists one after the other, and what is stored in them; then `steps`. Assumes nothing.
+-- Laws of the canvas: what is read of two lists one after the other, and what is stored in them; then `steps`; last stages that stay inside the first list. Assumes nothing.
 use mathlib.Core.Path.{_≡_, refl, sym, ap, _∙_, subst}
 use mathlib.Core.List.{List, [], _++_, append-assoc, append-nil}
 use mathlib.Core.Logic.{_⊎_, ⊎-elim}
-use Prim.Native.Nat.{ℕ, _+_, _*_, _-_, _≤_, _<_}
+use Prim.Native.Nat.{ℕ, zero, suc, _+_, _*_, _-_, _≤_, _<_}
 use native.Mathlib.Nat.{mul-le-mul-right, add-mul, one-mul}
 use native.Mathlib.Numerals.{add-one, add-one-le}
 use native.Mathlib.Omega.{arith}
@@ -246,3 +246,31 @@ walked-next step {c₀} {c} {c'} {h} {y} some w lt len e =
     let here : y ≡ y - 1 + 1 = omega arith in
     let next : y - 1 + 1 ≡ y + 1 - 1 = omega arith in
     subst (λ (k : ℕ). Walked (λ i. step (i + 1)) c₀ c' (h - 1) k) next (walked-more w (omega arith) len (e ∙ ap (λ (k : ℕ). step k c) here))
+
+-- ---- stages that stay inside: a stage on lists of len bytes keeps their length, and lists that follow don't count
+pub record Inside (len : ℕ) (stage : List ℕ → List ℕ) : Type 0 where
+  pub keeps : (c : List ℕ) → length c ≡ len → length (stage c) ≡ len
+  pub aside : (c S : List ℕ) → length c ≡ len → stage c ++ S ≡ stage (c ++ S)
+
+-- a run of n bytes, read of the list in whatever way
+pub inside-put : (len at n : ℕ) (run : List ℕ → List ℕ) → at + n ≤ len → ((c : List ℕ) → length (run c) ≡ n) → ((c S : List ℕ) → length c ≡ len → run c ≡ run (c ++ S)) → Inside len (λ c. put c at (run c))
+inside-put len at n run fits long reads =
+    record {
+      keeps = λ c e. put-length c at (run c) (omega (arith, long c)) ∙ e;
+      aside = λ c S e. put-left c S (run c) at (omega (arith, long c)) ∙ ap (put (c ++ S) at) (reads c S e);
+    }
+
+pub inside-then : {len : ℕ} {f g : List ℕ → List ℕ} → Inside len f → Inside len g → Inside len (λ c. g (f c))
+inside-then {len} {f} {g} a b =
+    record {
+      keeps = λ c e. b .keeps (f c) (a .keeps c e);
+      aside = λ c S e. b .aside (f c) S (a .keeps c e) ∙ ap g (a .aside c S e);
+    }
+
+pub inside-none : {len : ℕ} → Inside len (λ c. c)
+inside-none = record { keeps = λ c e. e; aside = λ c S e. refl }
+
+pub inside-steps : (len : ℕ) (step : ℕ → List ℕ → List ℕ) (n : ℕ) → ((y : ℕ) → y < n → Inside len (step y)) → Inside len (steps step n)
+unfolding steps
+inside-steps len step zero each = inside-none
+inside-steps len step (suc n) each = inside-then (inside-steps len step n (λ y h. each y (omega arith))) (each n (omega arith))
