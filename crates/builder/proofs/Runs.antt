@@ -169,6 +169,31 @@ put-zeros c l a e ordered fits is =
     ap (λ (x : List ℕ). take a c ++ (x ++ drop (e - a) (drop a c))) (is ∙ ap (λ (k : ℕ). replicate k 0) n)
     ∙ put-lent c (replicate (e - a) 0) a (e - a) (length-replicate (e - a) 0) (omega arith)
 
+-- what is read of a list after ys was stored: before it, and itself
+pub put-before : (c ys : List ℕ) (at k : ℕ) → at ≤ length c → k < at → getD (put c at ys) k 0 ≡ getD c k 0
+put-before c ys at k le lt =
+    ap (λ (x : List ℕ). getD x k 0) (put-plain c at ys le)
+    ∙ List·getD-append (take at c) (ys ++ drop (length ys) (drop at c)) 0 k (omega (arith, length-take-le at c le))
+    ∙ getD-take at c k 0 lt
+
+pub put-at : (c ys : List ℕ) (at i : ℕ) → at ≤ length c → i < length ys → getD (put c at ys) (at + i) 0 ≡ getD ys i 0
+put-at c ys at i le lt =
+    let back : at + i - length (take at c) ≡ i = omega (arith, length-take-le at c le) in
+    let rest = ys ++ drop (length ys) (drop at c) in
+    ap (λ (x : List ℕ). getD x (at + i) 0) (put-plain c at ys le)
+    ∙ second-at (take at c) rest (at + i) (omega (arith, length-take-le at c le))
+    ∙ ap (λ (k : ℕ). getD rest k 0) back
+    ∙ List·getD-append ys (drop (length ys) (drop at c)) 0 i lt
+
+pub fetch-before : (c ys : List ℕ) (at s n : ℕ) → at ≤ length c → s + n ≤ at → fetch (put c at ys) s n ≡ fetch c s n
+fetch-before c ys at s n le lt =
+    is-fetch (fetch (put c at ys) s n) c s n (fetch-length (put c at ys) s n)
+    (λ i h. fetch-at (put c at ys) s n i h ∙ put-before c ys at (s + i) le (omega arith))
+
+pub fetch-stored : (c ys : List ℕ) (at n : ℕ) → at ≤ length c → length ys ≡ n → fetch (put c at ys) at n ≡ ys
+fetch-stored c ys at n le e =
+    sym (is-fetch ys (put c at ys) at n e (λ i h. sym (put-at c ys at i le (omega arith))))
+
 -- ---- in two lists
 pub put-left : (F S ys : List ℕ) (at : ℕ) → at + length ys ≤ length F → put F at ys ++ S ≡ put (F ++ S) at ys
 put-left F S ys at fits =

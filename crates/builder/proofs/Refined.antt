@@ -1,0 +1,99 @@
+-- Laws of refining: a row stored in the list that it is read of; then a plane of rows; then the planes one after the other. Assumes nothing.
+use mathlib.Core.Path.{_≡_, refl, sym, ap, _∙_}
+use mathlib.Core.List.{List, [], _∷_, _++_, append-assoc}
+use Prim.Native.Nat.{ℕ, suc, _+_, _*_, _-_, _≤_, _<_}
+use native.Mathlib.Numerals.{add-one}
+use native.Mathlib.Omega.{arith}
+use lib.ListN.{length, getD, take, drop, set, length-append, length-drop, length-set, take-append-drop}
+use lib.Seq.{drop-cons, set-at, append-snoc, length-take-le}
+use Rattle.filters.specs.Row.{tab, meanOf, meansOf}
+use Rattle.filters.proofs.Tables.{tab-length, tab-ext}
+use Rattle.filters.proofs.Lengths.{means-length}
+use Rattle.builder.specs.Canvas.{fetch, put}
+use Rattle.builder.specs.Refining.{pairRun}
+use Rattle.builder.proofs.Runs.{fetch-at, fetch-length, fetch-left, fetch-before, fetch-stored, put-plain, put-before, put-left, put-length}
+
+tab-next : (f : ℕ → ℕ) (n : ℕ) → tab f (n + 1) ≡ tab f n ++ (f n ∷ [])
+unfolding tab
+tab-next f n = rw (add-one n)
+
+-- ---- a loop that stores a row at t, byte by byte, into the list that it reads before t
+-- one more byte of the row
+put-more : (f : ℕ → ℕ) (c : List ℕ) (t i v : ℕ) → t + i < length c → v ≡ f i → set (put c t (tab f i)) (t + i) v ≡ put c t (tab f (i + 1))
+put-more f c t i v room e =
+    let li : length (tab f i) ≡ i = tab-length f i in
+    let here : length (take t c ++ tab f i) ≡ t + i = length-append (take t c) (tab f i) ∙ omega (arith, length-take-le t c (omega arith)) in
+    let inside : i < length (drop t c) = omega (arith, length-drop t c) in
+    let next : length (tab f i ++ (f i ∷ [])) ≡ suc i = ap length (sym (tab-next f i)) ∙ tab-length f (i + 1) ∙ add-one i in
+    ap (λ (x : List ℕ). set x (t + i) v) (put-plain c t (tab f i) (omega arith))
+    ∙ ap (λ (k : ℕ). set (take t c ++ (tab f i ++ drop k (drop t c))) (t + i) v) li
+    ∙ ap (λ (x : List ℕ). set (take t c ++ (tab f i ++ x)) (t + i) v) (drop-cons (drop t c) i 0 inside)
+    ∙ ap (λ (x : List ℕ). set x (t + i) v) (sym (append-assoc (take t c) (tab f i) (getD (drop t c) i 0 ∷ drop (suc i) (drop t c))))
+    ∙ set-at (take t c ++ tab f i) (getD (drop t c) i 0) (drop (suc i) (drop t c)) v (t + i) here
+    ∙ ap (λ (x : ℕ). (take t c ++ tab f i) ++ (x ∷ drop (suc i) (drop t c))) e
+    ∙ append-assoc (take t c) (tab f i) (f i ∷ drop (suc i) (drop t c))
+    ∙ ap (λ (x : List ℕ). take t c ++ x) (sym (append-snoc (tab f i) (f i) (drop (suc i) (drop t c))))
+    ∙ ap (λ (k : ℕ). take t c ++ ((tab f i ++ (f i ∷ [])) ++ drop k (drop t c))) (sym next)
+    ∙ ap (λ (x : List ℕ). take t c ++ (x ++ drop (length x) (drop t c))) (sym (tab-next f i))
+    ∙ sym (put-plain c t (tab f (i + 1)) (omega arith))
+
+-- what the loop knows at its head
+pub record Laid (f : ℕ → ℕ) (c₀ c : List ℕ) (t n i : ℕ) : Type 0 where
+  pub most : i ≤ n
+  pub same : length c ≡ length c₀
+  pub is : c ≡ put c₀ t (tab f i)
+
+pub laid-none : (f : ℕ → ℕ) (c : List ℕ) (t n : ℕ) → t ≤ length c → Laid f c c t n 0
+unfolding tab
+laid-none f c t n le = record { most = omega arith; same = refl; is = sym (put-plain c t [] le ∙ take-append-drop t c) }
+
+pub laid-more : {f : ℕ → ℕ} {c₀ c : List ℕ} {t n i v : ℕ} → Laid f c₀ c t n i → i < n → t + n ≤ length c₀ → v ≡ f i → Laid f c₀ (set c (t + i) v) t n (i + 1)
+laid-more {f} {c₀} {c} {t} {n} {i} {v} h lt room e =
+    record {
+      most = omega arith;
+      same = length-set c (t + i) v ∙ h .same;
+      is = ap (λ (x : List ℕ). set x (t + i) v) (h .is) ∙ put-more f c₀ t i v (omega arith) e;
+    }
+
+pub laid-whole : {f : ℕ → ℕ} {c₀ c : List ℕ} {t n i : ℕ} → Laid f c₀ c t n i → n ≤ i → c ≡ put c₀ t (tab f n)
+laid-whole {f} {c₀} {c} {t} {n} {i} h le = let e : i ≡ n = omega arith in h .is ∙ ap (λ (k : ℕ). put c₀ t (tab f k)) e
+
+-- a byte before t, read in the loop
+pub laid-read : {f : ℕ → ℕ} {c₀ c : List ℕ} {t n i : ℕ} (k : ℕ) → Laid f c₀ c t n i → k < t → t ≤ length c₀ → getD c k 0 ≡ getD c₀ k 0
+laid-read {f} {c₀} {c} {t} {n} {i} k h lt le = ap (λ (x : List ℕ). getD x k 0) (h .is) ∙ put-before c₀ (tab f i) t k le lt
+
+-- the loop's rule
+abbrev pub meanAt : List ℕ → ℕ → ℕ → ℕ → ℕ
+meanAt c l r i = meanOf (getD c (l + i) 0) (getD c (r + i) 0)
+
+pub pair-laid : (c : List ℕ) (t l r n : ℕ) → put c t (tab (meanAt c l r) n) ≡ pairRun t l r n c
+unfolding pairRun meansOf
+pair-laid c t l r n =
+    ap (put c t)
+    (tab-ext (meanAt c l r) (λ i. meanOf (getD (fetch c l n) i 0) (getD (fetch c r n) i 0)) n
+    (λ i lt. ap (λ (x : ℕ). meanOf x (getD c (r + i) 0)) (sym (fetch-at c l n i lt)) ∙ ap (meanOf (getD (fetch c l n) i 0)) (sym (fetch-at c r n i lt))))
+
+-- ---- one row of a pair
+-- inside the frame
+pub pair-left : (F S : List ℕ) (t l r n : ℕ) → l + n ≤ length F → r + n ≤ length F → t + n ≤ length F → pairRun t l r n F ++ S ≡ pairRun t l r n (F ++ S)
+unfolding pairRun
+pair-left F S t l r n hl hr ht =
+    put-left F S (meansOf n (fetch F l n) (fetch F r n)) t (omega (arith, means-length n (fetch F l n) (fetch F r n)))
+    ∙ ap (λ (x : List ℕ). put (F ++ S) t (meansOf n x (fetch F r n))) (fetch-left F S l n hl)
+    ∙ ap (λ (x : List ℕ). put (F ++ S) t (meansOf n (fetch (F ++ S) l n) x)) (fetch-left F S r n hr)
+
+-- both rows laid at the start of x, and the means after them
+pub pair-apart : (c x : List ℕ) (l r n : ℕ) → 3 * n ≤ length x → fetch (pairRun (2 * n) 0 n n (put (put x 0 (fetch c l n)) n (fetch c r n))) (2 * n) n ≡ meansOf n (fetch c l n) (fetch c r n)
+unfolding pairRun
+pair-apart c x l r n room =
+    let a = fetch c l n in
+    let b = fetch c r n in
+    let x1 = put x 0 a in
+    let x2 = put x1 n b in
+    let e1 : length x1 ≡ length x = put-length x 0 a (omega (arith, fetch-length c l n)) in
+    let e2 : length x2 ≡ length x = put-length x1 n b (omega (arith, e1, fetch-length c r n)) ∙ e1 in
+    let first : fetch x2 0 n ≡ a = fetch-before x1 b n 0 n (omega (arith, e1)) (omega arith) ∙ fetch-stored x a 0 n (omega arith) (fetch-length c l n) in
+    let second : fetch x2 n n ≡ b = fetch-stored x1 b n n (omega (arith, e1)) (fetch-length c r n) in
+    fetch-stored x2 (meansOf n (fetch x2 0 n) (fetch x2 n n)) (2 * n) n (omega (arith, e2)) (means-length n (fetch x2 0 n) (fetch x2 n n))
+    ∙ ap (λ (y : List ℕ). meansOf n y (fetch x2 n n)) first
+    ∙ ap (meansOf n a) second
