@@ -7,10 +7,13 @@ use native.Mathlib.Omega.{arith}
 use lib.ListN.{length, getD, take, drop, set, length-append, length-drop, length-set, take-append-drop}
 use lib.Seq.{drop-cons, set-at, append-snoc, length-take-le}
 use Rattle.filters.specs.Row.{tab, meanOf, meansOf}
+use Rattle.filters.specs.Refine.{halfVertical}
+use Rattle.filters.specs.declared.half_pel.HalfPel.{HalfPel}
 use Rattle.filters.proofs.Tables.{tab-length, tab-ext}
 use Rattle.filters.proofs.Lengths.{means-length}
 use Rattle.builder.specs.Canvas.{fetch, put}
-use Rattle.builder.specs.Refining.{pairRun}
+use Rattle.builder.specs.declared.refining.Interp.{Interp}
+use Rattle.builder.specs.Refining.{pairRun, verticalRun}
 use Rattle.builder.proofs.Runs.{fetch-at, fetch-length, fetch-left, fetch-before, fetch-stored, put-plain, put-before, put-left, put-length}
 
 tab-next : (f : ℕ → ℕ) (n : ℕ) → tab f (n + 1) ≡ tab f n ++ (f n ∷ [])
@@ -97,3 +100,13 @@ pair-apart c x l r n room =
     fetch-stored x2 (meansOf n (fetch x2 0 n) (fetch x2 n n)) (2 * n) n (omega (arith, e2)) (means-length n (fetch x2 0 n) (fetch x2 n n))
     ∙ ap (λ (y : List ℕ). meansOf n y (fetch x2 n n)) first
     ∙ ap (meansOf n a) second
+
+-- ---- rows of a plane
+-- the rows around row y
+pub vertical-rows : (k : HalfPel) (i : Interp) (s y n a2 a1 : ℕ) (F m2 m1 c0 p1 p2 p3 : List ℕ) → n ≡ i .width → a2 ≡ y - 2 → a1 ≡ y - 1 → m2 ≡ fetch F (s + a2 * i .pitch) (i .width) → m1 ≡ fetch F (s + a1 * i .pitch) (i .width) → c0 ≡ fetch F (s + y * i .pitch) (i .width) → p1 ≡ fetch F (s + (y + 1) * i .pitch) (i .width) → p2 ≡ fetch F (s + (y + 2) * i .pitch) (i .width) → p3 ≡ fetch F (s + (y + 3) * i .pitch) (i .width) → halfVertical k y (i .height) n m2 m1 c0 p1 p2 p3 ≡ verticalRun k i s y F
+unfolding verticalRun
+vertical-rows k i s y n a2 a1 F m2 m1 c0 p1 p2 p3 e b2 b1 f2 f1 g0 g1 g2 g3 = rw (e, f2, f1, g0, g1, g2, g3, b2, b1)
+
+-- a canvas whose frame and spill kept their lengths
+pub both-lengths : (F S G T : List ℕ) → length F ≡ length G → length S ≡ length T → length (F ++ S) ≡ length (G ++ T)
+both-lengths F S G T e f = length-append F S ∙ omega (arith, length-append G T)

@@ -244,6 +244,9 @@ store-cut F S ys l m at low long e f =
 pub row-in : (y h p : ℕ) → y < h → y * p + p ≤ h * p
 row-in y h p lt = subst (λ (k : ℕ). k ≤ h * p) (add-mul y 1 p ∙ ap (λ (k : ℕ). y * p + k) (one-mul p)) (mul-le-mul-right p (add-one-le lt))
 
+pub row-fits : (len s n p rows y : ℕ) → n ≤ p → s + rows * p ≤ len → y < rows → s + y * p + n ≤ len
+row-fits len s n p rows y fits in' lt = omega (arith, row-in y rows p lt)
+
 pub steps-next : (step : ℕ → List ℕ → List ℕ) (n : ℕ) (c : List ℕ) → steps step (n + 1) c ≡ step n (steps step n c)
 unfolding steps
 steps-next step n c = rw (add-one n)

@@ -28,6 +28,31 @@ pub record Spread (n sp len spill scratch p : ℕ) (t : Region) : Type 0 where
   pub beyond : t .offset + t .height * (2 * p) ≤ len + spill
   pub room : 2 * p + 2 ≤ scratch
 
+-- a pair's row of n bytes at t, from those at l and r, in a frame of len bytes and its spill
+pub record PairRow (len spill scratch t l r n : ℕ) : Type 0 where
+  pub target : t + n ≤ len + spill
+  pub left : l ≤ len
+  pub right : r ≤ len
+  pub room : 3 * n ≤ scratch
+
+-- planes of a pair at t, from those at l and r, in a frame of len bytes: the last row ends in it or in the spill
+pub record PairPlane (len spill scratch : ℕ) (i : Interp) (t l r : ℕ) : Type 0 where
+  pub fits : i .width ≤ i .pitch
+  pub most : i .pitch ≤ mostPitch
+  pub target : t + i .height * i .pitch ≤ len
+  pub left : l + i .height * i .pitch ≤ len
+  pub right : r + i .height * i .pitch ≤ len
+  pub beyond : 16 ≤ spill
+  pub room : 16 * (i .pitch + 16) ≤ scratch
+
+-- a plane at t from rows of one at s, both in a frame of len bytes; scratch holds a row
+pub record OnePlane (len scratch rows : ℕ) (i : Interp) (t s : ℕ) : Type 0 where
+  pub fits : i .width ≤ i .pitch
+  pub most : i .height ≤ mostSide
+  pub source : s + rows * i .pitch ≤ len
+  pub target : t + i .height * i .pitch ≤ len
+  pub room : i .width ≤ scratch
+
 -- k planes lie in a frame of len bytes, from its start
 pub record Planes (k len spill scratch : ℕ) (i : Interp) : Type 0 where
   pub wide : 2 ≤ i .width

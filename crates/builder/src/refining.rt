@@ -1,4 +1,21 @@
 // The planes of level 0 between its places: open-svpflow's `refine` and `Interp`.
+// First the means of two rows; then a plane from one or two others; then the planes at half places; then the table of the pairs between those; last the whole.
+ghost use mathlib.Core.Path.{_≡_};
+ghost use mathlib.Core.List.{_++_};
+ghost use Prim.Native.Nat.{_+_, _*_, _-_, _≤_, _<_};
+ghost use lib.ListN.{length};
+ghost use Rattle.settings.specs.Limits.{mostSide, mostPitch};
+ghost use Rattle.filters.specs.Refine.{halfHorizontal};
+ghost use Rattle.builder.specs.Canvas.{fetch, put, copyRun};
+ghost use Rattle.builder.specs.Refining.{chunked, pairRun, pairPlane, horizontalPlane, verticalRun, verticalPlane};
+ghost use Rattle.builder.specs.Room.{PairRow, PairPlane, OnePlane};
+use crate::canvas::fetch;
+use crate::canvas::put;
+use crate::canvas::span;
+use crate::canvas::store;
+use filters::half_pel::HalfPel;
+use filters::rows::copy_row;
+use filters::rows::mean;
 
 // Planes of `height` rows of `width` bytes, `pitch` apart.
 pub struct Interp {
@@ -14,4 +31,189 @@ pub struct Pair {
     pub right: usize,
     pub across: usize,
     pub below: usize,
+}
+
+// By index in the one slice, both rows ending before the target.
+fn pair_inside(frame: &mut [u8], t: usize, l: usize, r: usize, n: usize)
+    requires { ⌜ (l + n ≤ t) × (r + n ≤ t) × (t + n ≤ length (now frame)) ⌝ }
+    ensures { λ q. ⌜ now (frame .exit) ≡ pairRun t l r n (now (frame .entry)) ⌝ }
+{
+    for i in 0..n {
+        frame[t + i] = mean(frame[l + i], frame[r + i]);
+    }
+}
+
+// n bytes of the canvas, laid into scratch.
+fn fetch_into(scratch: &mut [u8], at: usize, n: usize, frame: &[u8], spill: &[u8], start: usize)
+    requires { ⌜ at + n ≤ length (now scratch) ⌝ }
+    ensures { λ q. ⌜ now (scratch .exit) ≡ put (now (scratch .entry)) at (fetch (now (frame .entry) ++ now (spill .entry)) start n) ⌝ }
+{
+    fetch(&mut scratch[at..at + n], frame, spill, start);
+}
+
+// Through scratch: rows that reach over the target, or leave the frame.
+fn pair_apart(
+    frame: &mut [u8],
+    spill: &mut [u8],
+    scratch: &mut [u8],
+    t: usize,
+    l: usize,
+    r: usize,
+    n: usize,
+)
+    requires { ⌜ PairRow (length (now frame)) (length (now spill)) (length (now scratch)) t l r n ⌝ }
+    ensures { λ q. ⌜ now (frame .exit) ++ now (spill .exit) ≡ pairRun t l r n (now (frame .entry) ++ now (spill .entry)) ⌝ }
+{
+    fetch_into(scratch, 0, n, frame, spill, l);
+    fetch_into(scratch, n, n, frame, spill, r);
+    pair_inside(scratch, 2 * n, 0, n, n);
+    store(frame, spill, t, span(scratch, 2 * n, n));
+}
+
+fn pair_row(
+    frame: &mut [u8],
+    spill: &mut [u8],
+    scratch: &mut [u8],
+    t: usize,
+    l: usize,
+    r: usize,
+    n: usize,
+)
+    requires { ⌜ PairRow (length (now frame)) (length (now spill)) (length (now scratch)) t l r n ⌝ }
+    ensures { λ q. ⌜ now (frame .exit) ++ now (spill .exit) ≡ pairRun t l r n (now (frame .entry) ++ now (spill .entry)) ⌝ }
+{
+    if l + n <= t {
+        if r + n <= t {
+            if t + n <= frame.len() {
+                pair_inside(frame, t, l, r, n);
+                return;
+            }
+        }
+    }
+    pair_apart(frame, spill, scratch, t, l, r, n);
+}
+
+// The width raised to a multiple of 16.
+fn chunked(w: usize) -> usize
+    requires { ⌜ w ≤ mostPitch ⌝ }
+    ensures { λ r. ⌜ (r ≡ chunked w) × (r ≤ w + 15) ⌝ }
+{
+    (w + 15) / 16 * 16
+}
+
+// The row so far above, or the first.
+fn above(y: usize, k: usize) -> usize
+    ensures { λ r. ⌜ r ≡ y - k ⌝ }
+{
+    if y < k {
+        return 0;
+    }
+    y - k
+}
+
+impl Interp {
+    // The means of two planes.
+    fn pair(
+        self,
+        frame: &mut [u8],
+        spill: &mut [u8],
+        scratch: &mut [u8],
+        t: usize,
+        l: usize,
+        r: usize,
+    )
+        requires { ⌜ PairPlane (length (now frame)) (length (now spill)) (length (now scratch)) self t l r ⌝ }
+        ensures { λ q. ⌜ now (frame .exit) ++ now (spill .exit) ≡ pairPlane self t l r (now (frame .entry) ++ now (spill .entry)) ⌝ }
+    {
+        let n = chunked(self.width);
+        let height = self.height;
+        for y in 0..height {
+            let row = y * self.pitch;
+            pair_row(frame, spill, scratch, t + row, l + row, r + row, n);
+        }
+    }
+
+    fn copy_first_row(self, frame: &mut [u8], scratch: &mut [u8], t: usize, s: usize)
+        requires { ⌜ (s + self .width ≤ length (now frame)) × (t + self .width ≤ length (now frame)) × (self .width ≤ length (now scratch)) ⌝ }
+        ensures { λ r. ⌜ now (frame .exit) ≡ copyRun s t (self .width) (now (frame .entry)) ⌝ }
+    {
+        let row = &mut scratch[..self.width];
+        copy_row(row, span(frame, s, self.width));
+        put(frame, t, row);
+    }
+
+    fn horizontal_row(
+        self,
+        kernel: HalfPel,
+        frame: &mut [u8],
+        scratch: &mut [u8],
+        t: usize,
+        s: usize,
+    )
+        requires { ⌜ (s + self .width ≤ length (now frame)) × (t + self .width ≤ length (now frame)) × (self .width ≤ length (now scratch)) ⌝ }
+        ensures { λ r. ⌜ now (frame .exit) ≡ put (now (frame .entry)) t (halfHorizontal kernel (self .width) (fetch (now (frame .entry)) s (self .width))) ⌝ }
+    {
+        let row = &mut scratch[..self.width];
+        kernel.horizontal(row, span(frame, s, self.width));
+        put(frame, t, row);
+    }
+
+    fn horizontal(self, kernel: HalfPel, frame: &mut [u8], scratch: &mut [u8], t: usize, s: usize)
+        requires { ⌜ OnePlane (length (now frame)) (length (now scratch)) (self .height) self t s ⌝ }
+        ensures { λ r. ⌜ now (frame .exit) ≡ horizontalPlane kernel self t s (now (frame .entry)) ⌝ }
+    {
+        let height = self.height;
+        for y in 0..height {
+            let row = y * self.pitch;
+            self.horizontal_row(kernel, frame, scratch, t + row, s + row);
+        }
+    }
+
+    // Row y of a plane at s.
+    fn row(self, frame: &[u8], s: usize, y: usize) -> &[u8]
+        requires { ⌜ s + y * self .pitch + self .width ≤ length (now frame) ⌝ }
+        ensures { λ r. ⌜ (now r ≡ fetch (now (frame .entry)) (s + y * self .pitch) (self .width)) × (length (now r) ≡ self .width) ⌝ }
+    {
+        span(frame, s + y * self.pitch, self.width)
+    }
+
+    fn vertical_line(self, kernel: HalfPel, out: &mut [u8], frame: &[u8], s: usize, y: usize)
+        requires { ⌜ (y < self .height) × (self .height ≤ mostSide) × (length (now out) ≡ self .width) × (self .width ≤ self .pitch) × (s + (self .height + 3) * self .pitch ≤ length (now frame)) ⌝ }
+        ensures { λ r. ⌜ now (out .exit) ≡ verticalRun kernel self s y (now (frame .entry)) ⌝ }
+    {
+        let m2 = self.row(frame, s, above(y, 2));
+        let m1 = self.row(frame, s, above(y, 1));
+        let c0 = self.row(frame, s, y);
+        let p1 = self.row(frame, s, y + 1);
+        let p2 = self.row(frame, s, y + 2);
+        let p3 = self.row(frame, s, y + 3);
+        kernel.vertical(out, y, self.height, m2, m1, c0, p1, p2, p3);
+    }
+
+    fn vertical_row(
+        self,
+        kernel: HalfPel,
+        frame: &mut [u8],
+        scratch: &mut [u8],
+        t: usize,
+        s: usize,
+        y: usize,
+    )
+        requires { ⌜ (y < self .height) × (OnePlane (length (now frame)) (length (now scratch)) (self .height + 3) self t s) ⌝ }
+        ensures { λ r. ⌜ now (frame .exit) ≡ put (now (frame .entry)) (t + y * self .pitch) (verticalRun kernel self s y (now (frame .entry))) ⌝ }
+    {
+        let row = &mut scratch[..self.width];
+        self.vertical_line(kernel, row, frame, s, y);
+        put(frame, t + y * self.pitch, row);
+    }
+
+    fn vertical(self, kernel: HalfPel, frame: &mut [u8], scratch: &mut [u8], t: usize, s: usize)
+        requires { ⌜ OnePlane (length (now frame)) (length (now scratch)) (self .height + 3) self t s ⌝ }
+        ensures { λ r. ⌜ now (frame .exit) ≡ verticalPlane kernel self t s (now (frame .entry)) ⌝ }
+    {
+        let height = self.height;
+        for y in 0..height {
+            self.vertical_row(kernel, frame, scratch, t, s, y);
+        }
+    }
 }

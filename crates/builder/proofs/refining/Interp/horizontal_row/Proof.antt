@@ -1,0 +1,55 @@
+-- `horizontal_row` meets its contract. Assumes nothing.
+use mathlib.Core.Path.{sym, ap, _∙_}
+use Prim.Native.Nat.{ℕ, _-_}
+use native.Mathlib.Omega.{arith}
+use lib.Seq.{length-take-le}
+use denote.Ref.{now}
+use borrow.Author.Needs.{needs}
+use Rattle.filters.specs.Refine.{halfHorizontal}
+use Rattle.builder.specs.Canvas.{put}
+use Rattle.builder.proofs.refining.Interp.horizontal_row.Statement.{statement}
+use Rattle.builder.proofs.refining.Interp.horizontal_row.Tie as tie
+
+slice-relend-prefix-row : tie.Need-slice-relend-prefix-row
+slice-relend-prefix-row c = search needs
+
+slice-aggregate-row : tie.Need-slice-aggregate-row
+slice-aggregate-row c = let s = c .before .before .before .args in sym (length-take-le (s .self .width) (now (s .scratch)) (omega (arith, c .before .before .before .pre)))
+
+span-requires : tie.Need-span-requires
+span-requires c κs = search needs
+
+horizontal-requires : tie.Need-horizontal-requires
+horizontal-requires c κs = let a = c .before .before .before .before .before .before .args in omega (arith, length-take-le (a .self .width) (now (a .scratch)) (omega (arith, c .before .before .before .before .before .before .pre)), c .span .ensures .1)
+
+put-requires : tie.Need-put-requires
+put-requires c κs = let a = c .before .before .before .before .before .before .before .before .before .before .before .args in omega (arith, c .before .before .before .before .horizontal .kept .1 .0, length-take-le (a .self .width) (now (a .scratch)) (omega (arith, c .before .before .before .before .before .before .before .before .before .before .before .pre)), c .before .before .before .before .before .before .before .before .before .before .before .pre)
+
+same-length : tie.Need-same-length
+same-length c = search needs
+
+same-length-2 : tie.Need-same-length-2
+same-length-2 c = search needs
+
+returns : tie.Need-returns
+returns c =
+    let a = c .before .before .before .before .before .before .before .before .before .before .before .before .before .before .before .before .args in
+    let w = a .self .width in
+    let row =
+    c .before .before .before .before .before .before .before .before .before .horizontal .ensures
+    ∙ ap (λ (k : ℕ). halfHorizontal (a .kernel) k (now (c .before .before .before .before .before .before .before .before .before .before .span .result))) (length-take-le w (now (a .scratch)) (omega (arith, c .before .before .before .before .before .before .before .before .before .before .before .before .before .before .before .before .pre)))
+    ∙ ap (halfHorizontal (a .kernel) w) (c .before .before .before .before .before .before .before .before .before .before .span .ensures .0) in
+    c .before .before .before .before .put .ensures ∙ ap (put (now (a .frame)) (a .t)) row
+
+pub horizontal-row-spec : {M : Type 1} → statement M
+horizontal-row-spec =
+    tie.close
+    (tie.spec
+    slice-relend-prefix-row
+    slice-aggregate-row
+    span-requires
+    horizontal-requires
+    put-requires
+    same-length
+    same-length-2
+    returns)

@@ -1,0 +1,102 @@
+-- `pair` meets its contract. The loop has made the rows passed. Assumes nothing.
+use mathlib.Core.Path.{_≡_, refl, ap, _∙_}
+use mathlib.Core.List.{_++_}
+use Prim.Native.Nat.{ℕ, _+_, _*_, _-_}
+use native.Mathlib.Omega.{arith}
+use lib.ListN.{length}
+use denote.Ref.{now}
+use Rattle.builder.specs.Canvas.{steps}
+use Rattle.builder.specs.Refining.{pairRun, pairPlane}
+use Rattle.builder.proofs.Runs.{row-in, Walked, walked-none, walked-more, walked-whole}
+use Rattle.builder.proofs.Refined.{both-lengths}
+use Rattle.builder.proofs.refining.Interp.pair.Statement.{statement}
+use Rattle.builder.proofs.refining.Interp.pair.Tie as tie
+
+abbrev Inv-loop : tie.InvT-loop
+Inv-loop self frame₀ spill₀ scratch₀ t l r n height y₀ frame spill scratch y = Walked (λ k. pairRun (t + k * self .pitch) (l + k * self .pitch) (r + k * self .pitch) n) (frame₀ ++ spill₀) (frame ++ spill) height y × (length frame ≡ length frame₀) × (length spill ≡ length spill₀) × (length scratch ≡ length scratch₀)
+
+abbrev μ-loop : tie.MeasureT-loop
+μ-loop self frame₀ spill₀ scratch₀ t l r n height y₀ frame spill scratch y = height - y
+
+chunked-requires : tie.Need-chunked-requires Inv-loop μ-loop
+chunked-requires c κs = omega (arith, c .before .before .before .pre .fits, c .before .before .before .pre .most)
+
+loop-holds : tie.Need-loop-holds Inv-loop μ-loop
+loop-holds c = (walked-none, refl, refl, refl)
+
+mul-row : tie.Need-mul-row Inv-loop μ-loop
+mul-row c = let i = c .before .before .before .before .before .before .before .args .self in omega (arith, row-in (c .before .before .loop .y) (i .height) (i .pitch) (c .before .loop-test .taken), c .before .before .before .before .before .before .before .pre .target)
+
+add-pair-row : tie.Need-add-pair-row Inv-loop μ-loop
+add-pair-row c = let i = c .before .before .before .before .before .before .before .before .before .before .args .self in omega (arith, row-in (c .before .before .before .before .before .loop .y) (i .height) (i .pitch) (c .before .before .before .before .loop-test .taken), c .before .before .before .before .before .before .before .before .before .before .pre .target)
+
+add-pair-row-2 : tie.Need-add-pair-row-2 Inv-loop μ-loop
+add-pair-row-2 c = let i = c .before .before .before .before .before .before .before .before .before .before .args .self in omega (arith, row-in (c .before .before .before .before .before .loop .y) (i .height) (i .pitch) (c .before .before .before .before .loop-test .taken), c .before .before .before .before .before .before .before .before .before .before .pre .left)
+
+add-pair-row-3 : tie.Need-add-pair-row-3 Inv-loop μ-loop
+add-pair-row-3 c = let i = c .before .before .before .before .before .before .before .before .before .before .args .self in omega (arith, row-in (c .before .before .before .before .before .loop .y) (i .height) (i .pitch) (c .before .before .before .before .loop-test .taken), c .before .before .before .before .before .before .before .before .before .before .pre .right)
+
+pair-row-requires : tie.Need-pair-row-requires Inv-loop μ-loop
+pair-row-requires c κs =
+    let i = c .before .before .before .before .before .before .before .before .before .before .args .self in
+    let row = row-in (c .before .before .before .before .before .loop .y) (i .height) (i .pitch) (c .before .before .before .before .loop-test .taken) in
+    let p = c .before .before .before .before .before .before .before .before .before .before .pre in
+    let v = c .before .before .before .before .before .loop .inv in
+    let n = c .before .before .before .before .before .before .chunked .ensures .1 in
+    record {
+      target = omega (arith, row, p .target, p .fits, p .beyond, n, v .1, v .2);
+      left = omega (arith, row, p .left, v .1);
+      right = omega (arith, row, p .right, v .1);
+      room = omega (arith, p .room, p .fits, n, v .3);
+    }
+
+add-y : tie.Need-add-y Inv-loop μ-loop
+add-y c = omega arith
+
+loop-less : tie.Need-loop-less Inv-loop μ-loop
+loop-less c = omega arith
+
+loop-again : tie.Need-loop-again Inv-loop μ-loop
+loop-again c =
+    let q = c .before .before .before .before .before .before .pair-row in
+    let l = c .before .before .before .before .before .before .before .before .before .before .before .before .loop in
+    let v = l .inv in
+    (walked-more (v .0) (c .before .before .before .before .before .before .before .before .before .before .before .loop-test .taken) (both-lengths (q .last .0) (q .last .1 .0) (l .frame) (l .spill) (q .kept .0) (q .kept .1 .0)) (q .ensures), q .kept .0 ∙ v .1, q .kept .1 .0 ∙ v .2, q .kept .1 .1 .0 ∙ v .3)
+
+same-length : tie.Need-same-length Inv-loop μ-loop
+same-length c = c .before .loop .inv .1
+
+same-length-2 : tie.Need-same-length-2 Inv-loop μ-loop
+same-length-2 c = c .before .loop .inv .2
+
+same-length-3 : tie.Need-same-length-3 Inv-loop μ-loop
+same-length-3 c = c .before .loop .inv .3
+
+returns : tie.Need-returns Inv-loop μ-loop
+unfolding pairPlane
+returns c =
+    let a = c .before .before .before .before .before .before .args in
+    let i = a .self in
+    walked-whole (c .before .loop .inv .0) (c .loop-test .left)
+    ∙ ap (λ (n : ℕ). steps (λ y. pairRun (a .t + y * i .pitch) (a .l + y * i .pitch) (a .r + y * i .pitch) n) (i .height) (now (a .frame) ++ now (a .spill))) (c .before .before .chunked .ensures .0)
+
+pub pair-spec : {M : Type 1} → statement M
+pair-spec =
+    tie.close
+    (tie.spec
+    Inv-loop
+    μ-loop
+    chunked-requires
+    loop-holds
+    mul-row
+    add-pair-row
+    add-pair-row-2
+    add-pair-row-3
+    pair-row-requires
+    add-y
+    loop-less
+    loop-again
+    same-length
+    same-length-2
+    same-length-3
+    returns)

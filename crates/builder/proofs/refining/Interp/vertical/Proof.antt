@@ -1,0 +1,59 @@
+-- `vertical` meets its contract. The loop has made the rows passed. Assumes nothing.
+use mathlib.Core.Path.{_≡_, refl, _∙_}
+use Prim.Native.Nat.{_+_, _*_, _-_}
+use native.Mathlib.Omega.{arith}
+use lib.ListN.{length}
+use Rattle.builder.specs.Canvas.{put}
+use Rattle.builder.specs.Refining.{verticalRun, verticalPlane}
+use Rattle.builder.proofs.Runs.{Walked, walked-none, walked-more, walked-whole}
+use Rattle.builder.proofs.refining.Interp.vertical.Statement.{statement}
+use Rattle.builder.proofs.refining.Interp.vertical.Tie as tie
+
+abbrev Inv-loop : tie.InvT-loop
+Inv-loop self kernel frame₀ scratch₀ t s height y₀ frame scratch y = Walked (λ k d. put d (t + k * self .pitch) (verticalRun kernel self s k d)) frame₀ frame height y × (length scratch ≡ length scratch₀)
+
+abbrev μ-loop : tie.MeasureT-loop
+μ-loop self kernel frame₀ scratch₀ t s height y₀ frame scratch y = height - y
+
+loop-holds : tie.Need-loop-holds Inv-loop μ-loop
+loop-holds c = (walked-none, refl)
+
+vertical-row-requires : tie.Need-vertical-row-requires Inv-loop μ-loop
+vertical-row-requires c κs =
+    let p = c .before .before .before .before .before .before .pre in
+    let e = c .before .before .before .loop .inv .0 .same in
+    (c .before .before .loop-test .taken, record { fits = p .fits; most = p .most; source = omega (arith, p .source, e); target = omega (arith, p .target, e); room = omega (arith, p .room, c .before .before .before .loop .inv .1) })
+
+add-y : tie.Need-add-y Inv-loop μ-loop
+add-y c = omega arith
+
+loop-less : tie.Need-loop-less Inv-loop μ-loop
+loop-less c = omega arith
+
+loop-again : tie.Need-loop-again Inv-loop μ-loop
+loop-again c = (walked-more (c .before .before .before .before .before .before .before .before .loop .inv .0) (c .before .before .before .before .before .before .before .loop-test .taken) (c .before .before .before .before .vertical-row .kept .1 .1 .0) (c .before .before .before .before .vertical-row .ensures), c .before .before .before .before .vertical-row .kept .1 .1 .1 .0 ∙ c .before .before .before .before .before .before .before .before .loop .inv .1)
+
+same-length : tie.Need-same-length Inv-loop μ-loop
+same-length c = c .before .loop .inv .0 .same
+
+same-length-2 : tie.Need-same-length-2 Inv-loop μ-loop
+same-length-2 c = c .before .loop .inv .1
+
+returns : tie.Need-returns Inv-loop μ-loop
+unfolding verticalPlane
+returns c = walked-whole (c .before .loop .inv .0) (c .loop-test .left)
+
+pub vertical-spec : {M : Type 1} → statement M
+vertical-spec =
+    tie.close
+    (tie.spec
+    Inv-loop
+    μ-loop
+    loop-holds
+    vertical-row-requires
+    add-y
+    loop-less
+    loop-again
+    same-length
+    same-length-2
+    returns)

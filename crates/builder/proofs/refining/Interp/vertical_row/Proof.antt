@@ -1,0 +1,52 @@
+-- `vertical_row` meets its contract. Assumes nothing.
+use mathlib.Core.Path.{sym, ap, _∙_}
+use Prim.Native.Nat.{_+_, _*_, _-_}
+use native.Mathlib.Omega.{arith}
+use lib.Seq.{length-take-le}
+use denote.Ref.{now}
+use borrow.Author.Needs.{needs}
+use Rattle.builder.specs.Canvas.{put}
+use Rattle.builder.proofs.Runs.{row-in}
+use Rattle.builder.proofs.refining.Interp.vertical_row.Statement.{statement}
+use Rattle.builder.proofs.refining.Interp.vertical_row.Tie as tie
+
+slice-relend-prefix-row : tie.Need-slice-relend-prefix-row
+slice-relend-prefix-row c = search needs
+
+slice-aggregate-row : tie.Need-slice-aggregate-row
+slice-aggregate-row c = let s = c .before .before .before .args in sym (length-take-le (s .self .width) (now (s .scratch)) (c .before .before .before .pre .1 .room))
+
+vertical-line-requires : tie.Need-vertical-line-requires
+vertical-line-requires c κs = let a = c .before .before .before .before .before .args in let p = c .before .before .before .before .before .pre in (p .0, p .1 .most, length-take-le (a .self .width) (now (a .scratch)) (p .1 .room), p .1 .fits, p .1 .source)
+
+mul-put : tie.Need-mul-put
+mul-put c = let i = c .before .before .before .before .before .before .before .before .before .before .args .self in omega (arith, row-in (c .before .before .before .before .before .before .before .before .before .before .args .y) (i .height) (i .pitch) (c .before .before .before .before .before .before .before .before .before .before .pre .0), c .before .before .before .before .before .before .before .before .before .before .pre .1 .target)
+
+add-put : tie.Need-add-put
+add-put c = let i = c .before .before .before .before .before .before .before .before .before .before .args .self in omega (arith, row-in (c .before .before .before .before .before .before .before .before .before .before .args .y) (i .height) (i .pitch) (c .before .before .before .before .before .before .before .before .before .before .pre .0), c .before .before .before .before .before .before .before .before .before .before .pre .1 .target)
+
+put-requires : tie.Need-put-requires
+put-requires c κs = let a = c .before .before .before .before .before .before .before .before .before .before .before .args in let i = a .self in omega (arith, row-in (a .y) (i .height) (i .pitch) (c .before .before .before .before .before .before .before .before .before .before .before .pre .0), c .before .before .before .before .before .before .before .before .before .before .before .pre .1 .target, c .before .before .before .before .before .before .before .before .before .before .before .pre .1 .fits, c .before .before .before .before .before .vertical-line .kept .1 .1 .0, length-take-le (i .width) (now (a .scratch)) (c .before .before .before .before .before .before .before .before .before .before .before .pre .1 .room))
+
+same-length : tie.Need-same-length
+same-length c = search needs
+
+same-length-2 : tie.Need-same-length-2
+same-length-2 c = search needs
+
+returns : tie.Need-returns
+returns c = let a = c .before .before .before .before .before .before .before .before .before .before .before .before .before .before .before .before .args in c .before .before .before .before .put .ensures ∙ ap (put (now (a .frame)) (a .t + a .y * a .self .pitch)) (c .before .before .before .before .before .before .before .before .before .before .vertical-line .ensures)
+
+pub vertical-row-spec : {M : Type 1} → statement M
+vertical-row-spec =
+    tie.close
+    (tie.spec
+    slice-relend-prefix-row
+    slice-aggregate-row
+    vertical-line-requires
+    mul-put
+    add-put
+    put-requires
+    same-length
+    same-length-2
+    returns)

@@ -1,0 +1,71 @@
+-- `pair_apart` meets its contract. Assumes nothing.
+use mathlib.Core.Path.{ap, _∙_}
+use mathlib.Core.List.{List, _++_}
+use Prim.Native.Nat.{ℕ, _+_, _*_}
+use denote.Ref.{now}
+use borrow.Author.Needs.{needs}
+use Rattle.builder.specs.Canvas.{fetch, put}
+use Rattle.builder.specs.Refining.{pairRun}
+use Rattle.builder.proofs.Refined.{pair-apart}
+use Rattle.builder.proofs.refining.pair_apart.Statement.{statement}
+use Rattle.builder.proofs.refining.pair_apart.Tie as tie
+
+fetch-into-requires : tie.Need-fetch-into-requires
+fetch-into-requires c κs = search needs
+
+fetch-into-requires-2 : tie.Need-fetch-into-requires-2
+fetch-into-requires-2 c κs = search needs
+
+mul-pair-inside : tie.Need-mul-pair-inside
+mul-pair-inside c = search needs
+
+pair-inside-requires : tie.Need-pair-inside-requires
+pair-inside-requires c κs = search needs
+
+mul-span : tie.Need-mul-span
+mul-span c = search needs
+
+span-requires : tie.Need-span-requires
+span-requires c κs = search needs
+
+store-requires : tie.Need-store-requires
+store-requires c κs = search needs
+
+same-length : tie.Need-same-length
+same-length c = search needs
+
+same-length-2 : tie.Need-same-length-2
+same-length-2 c = search needs
+
+same-length-3 : tie.Need-same-length-3
+same-length-3 c = search needs
+
+returns : tie.Need-returns
+unfolding pairRun
+returns c =
+    let a = c .before .before .before .before .before .before .before .before .before .before .before .before .before .before .before .before .before .before .before .before .before .before .before .before .before .before .before .before .args in
+    let C = now (a .frame) ++ now (a .spill) in
+    let n = a .n in
+    let row =
+    c .before .before .before .before .before .span .ensures .0
+    ∙ ap (λ (x : List ℕ). fetch x (2 * n) n)
+    (c .before .before .before .before .before .before .before .before .before .before .before .pair-inside .ensures
+    ∙ ap (pairRun (2 * n) 0 n n) (c .before .before .before .before .before .before .before .before .before .before .before .before .before .before .before .fetch-into2 .ensures ∙ ap (λ (x : List ℕ). put x n (fetch C (a .r) n)) (c .before .before .before .before .before .before .before .before .before .before .before .before .before .before .before .before .before .before .before .before .before .fetch-into .ensures)))
+    ∙ pair-apart C (now (a .scratch)) (a .l) (a .r) n (c .before .before .before .before .before .before .before .before .before .before .before .before .before .before .before .before .before .before .before .before .before .before .before .before .before .before .before .before .pre .room) in
+    c .before .before .before .before .store .ensures ∙ ap (put C (a .t)) row
+
+pub pair-apart-spec : {M : Type 1} → statement M
+pair-apart-spec =
+    tie.close
+    (tie.spec
+    fetch-into-requires
+    fetch-into-requires-2
+    mul-pair-inside
+    pair-inside-requires
+    mul-span
+    span-requires
+    store-requires
+    same-length
+    same-length-2
+    same-length-3
+    returns)

@@ -1,0 +1,62 @@
+-- `pair_row` meets its contract. Assumes nothing.
+use mathlib.Core.Path.{ap, _∙_}
+use mathlib.Core.List.{List, _++_}
+use Prim.Native.Nat.{ℕ, _+_}
+use native.Mathlib.Omega.{arith}
+use denote.Ref.{now}
+use borrow.Author.Needs.{needs}
+use Rattle.builder.proofs.Refined.{pair-left}
+use Rattle.builder.proofs.refining.pair_row.Statement.{statement}
+use Rattle.builder.proofs.refining.pair_row.Tie as tie
+
+add-if1 : tie.Need-add-if1
+add-if1 c = search needs
+
+add-if2 : tie.Need-add-if2
+add-if2 c = search needs
+
+add-if3 : tie.Need-add-if3
+add-if3 c = search needs
+
+pair-inside-requires : tie.Need-pair-inside-requires
+pair-inside-requires c κs = search needs
+
+same-length : tie.Need-same-length
+same-length c = search needs
+
+returns : tie.Need-returns
+returns c =
+    let a = c .before .before .before .before .before .before .before .before .before .before .args in
+    ap (λ (x : List ℕ). x ++ now (a .spill)) (c .before .before .pair-inside .ensures)
+    ∙ pair-left (now (a .frame)) (now (a .spill)) (a .t) (a .l) (a .r) (a .n) (omega (arith, c .before .before .before .before .before .before .if1 .taken, c .before .before .before .before .if3 .taken)) (omega (arith, c .before .before .before .before .before .if2 .taken, c .before .before .before .before .if3 .taken)) (c .before .before .before .before .if3 .taken)
+
+pair-apart-requires : tie.Need-pair-apart-requires
+pair-apart-requires c κs = search needs
+
+same-length-2 : tie.Need-same-length-2
+same-length-2 c = search needs
+
+same-length-3 : tie.Need-same-length-3
+same-length-3 c = search needs
+
+same-length-4 : tie.Need-same-length-4
+same-length-4 c = search needs
+
+returns-2 : tie.Need-returns-2
+returns-2 c = search needs
+
+pub pair-row-spec : {M : Type 1} → statement M
+pair-row-spec =
+    tie.close
+    (tie.spec
+    add-if1
+    add-if2
+    add-if3
+    pair-inside-requires
+    same-length
+    returns
+    pair-apart-requires
+    same-length-2
+    same-length-3
+    same-length-4
+    returns-2)
