@@ -4,6 +4,7 @@
 --     Layouts    a layout that isn't refused: its numbers are small, its levels follow each other, a row lies in its level
 --     Stored     levels that are stored: none is smaller than 2 by 2, which are fused, what the spill holds
 --     Lines      one row of a later level before it is halved
+--     Halves     a row of it halved in its place, and a row of the fused cubic
 --     Refined    a row stored in the list that it is read of; the planes of level 0
 --     Known      an answer is known by its number and value
 --     ByHand     document 01's examples, computed
@@ -14,6 +15,7 @@ pub mod Runs
 pub mod Layouts
 pub mod Stored
 pub mod Lines
+pub mod Halves
 pub mod Refined
 pub mod Known
 pub mod ByHand

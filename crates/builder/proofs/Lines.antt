@@ -1,19 +1,21 @@
 -- One row of a later level before it is halved: the rows that it reads lie in the source, and others have no effect. Assumes nothing.
 use mathlib.Core.Path.{_≡_, refl, sym, ap, _∙_}
-use mathlib.Core.Bool.{true, false}
+use mathlib.Core.Bool.{Bool, true, false, cond, _&&_}
 use mathlib.Core.List.{List, _++_, append-nil}
-use Prim.Native.Nat.{ℕ, _+_, _*_, _-_, _≤_, _<_, min}
+use Prim.Native.Nat.{ℕ, zero, suc, _+_, _*_, _-_, _≤_, _<_, min}
 use native.Mathlib.Nat.{add-mul, one-mul}
 use native.Mathlib.Omega.{arith}
-use lib.ListN.{length, take, drop, drop-of-length-le}
+use lib.Dec.{leb, eqb}
+use borrow.Author.Tests.{leb-false}
+use lib.ListN.{length, take, drop, length-append, drop-of-length-le}
 use lib.Seq.{length-take-le}
+use Rattle.settings.proofs.Tests.{or-false-right}
 use Rattle.filters.specs.declared.halving.ReduceFilter.{ReduceFilter}
 use Rattle.filters.specs.declared.halving.ReduceFilter.the-variants.{Average, Bilinear, Quadratic, Cubic}
 use Rattle.filters.specs.Row.{Six, tab, meansOf, sixes}
-use Rattle.filters.specs.Halve.{firstRow, lastRow, lastIsMean, isEdge, weigh}
+use Rattle.filters.specs.Halve.{firstRow, lastRow, lastIsMean, isEdge, weigh, restOf}
 use Rattle.filters.proofs.Kernels.{rows-read}
-use Rattle.filters.proofs.Pairs.{past-first, before-last}
-use Rattle.filters.proofs.Lengths.{sixes-length}
+use Rattle.filters.proofs.Lengths.{means-length, sixes-length}
 use Rattle.builder.specs.Canvas.{fetch}
 use Rattle.builder.specs.Room.{Source}
 use Rattle.builder.specs.Halving.{wholeOf, wholeLine, restLine, innerLine, verticalLine}
@@ -94,6 +96,16 @@ whole-length : (f : ReduceFilter) (n : ℕ) (s : List ℕ) (at sp : ℕ) → len
 unfolding wholeLine
 whole-length f n s at sp = sixes-length (weigh f) n _ _ _ _ _ _
 
+rest-line-length : (n : ℕ) (s : List ℕ) (x sp : ℕ) → length (restLine n s x sp) ≡ n
+unfolding restLine
+rest-line-length n s x sp = sixes-length restOf n _ _ _ _ _ _
+
+inner-length : (f : ReduceFilter) (whole n : ℕ) (s : List ℕ) (at sp : ℕ) → whole ≤ n → length (innerLine f whole n s at sp) ≡ n
+unfolding innerLine
+inner-length f whole n s at sp le =
+    length-append (wholeLine f whole s at sp) (restLine (n - whole) s (at + whole) sp)
+    ∙ omega (arith, whole-length f whole s at sp, rest-line-length (n - whole) s (at + whole) sp)
+
 -- the row was lent up to column k, and came back as l
 module _ (f : ReduceFilter) (s : List ℕ) (at sp : ℕ) (out l : List ℕ) (k : ℕ) (is : k ≡ wholeOf f (length out)) (fits : k ≤ length out) (front : l ≡ wholeLine f (length (take k out)) s at sp) where
   front-is : l ≡ wholeLine f (wholeOf f (length out)) s at sp
@@ -119,6 +131,17 @@ module _ (f : ReduceFilter) (s : List ℕ) (at sp : ℕ) (out l : List ℕ) (k :
       ∙ ap (λ (x : List ℕ). x ++ m) front-is
       ∙ ap (λ (x : List ℕ). wholeLine f (wholeOf f (length out)) s at sp ++ x) (e ∙ ap (λ (n : ℕ). restLine n s (at + k) sp) (rest-length out l m k fits front-length) ∙ ap (λ (n : ℕ). restLine (length out - n) s (at + n) sp) is)
 
+pub line-length : (f : ReduceFilter) (whole n h : ℕ) (s : List ℕ) (base sp y : ℕ) → whole ≤ n → length (verticalLine f whole n h s base sp y) ≡ n
+unfolding verticalLine
+line-length f whole n h s base sp y le = go (isEdge f y h)
+  where
+    rest : (at : ℕ) → length (innerLine f whole n s at sp) ≡ n
+    rest at = inner-length f whole n s at sp le
+
+    go : (t : Bool) → length (cond t (meansOf n (fetch s (base + y * (2 * sp)) n) (fetch s (base + y * (2 * sp) + sp) n)) (innerLine f whole n s (base + y * (2 * sp)) sp)) ≡ n
+    go true = means-length n _ _
+    go false = rest (base + y * (2 * sp))
+
 -- ---- the rows that it reads
 -- an edge reads two rows
 pub edge-reach : {len base sp n h y : ℕ} → Source len base sp n h → y < h → base + y * (2 * sp) + sp + n ≤ len
@@ -132,6 +155,13 @@ below-reach Average {sp = sp} {h = h} {y = y} s lt more = omega (arith, s .rows,
 below-reach Bilinear {sp = sp} {h = h} {y = y} s lt more = omega (arith, s .rows, next-row y h sp (more refl))
 below-reach Quadratic {sp = sp} {h = h} {y = y} s lt more = omega (arith, s .rows, next-row y h sp (more refl))
 below-reach Cubic {sp = sp} {h = h} {y = y} s lt more = omega (arith, s .rows, next-row y h sp (more refl))
+
+past-first : (f : ReduceFilter) (y h : ℕ) → isEdge f y h ≡ false → 0 < y
+past-first f zero h e = absurd (let z : _≡_ {A = ℕ} 0 1 = cc in omega arith)
+past-first f (suc y) h e = omega arith
+
+before-last : (f : ReduceFilter) (y h : ℕ) → isEdge f y h ≡ false → lastIsMean f ≡ true → y + 1 < h
+before-last f y h e m = leb-false h (y + 1) (rw m at (or-false-right (eqb y 0) (lastIsMean f && leb h (y + 1)) e))
 
 -- another row as many as its filter
 pub inner-reach : (f : ReduceFilter) {len base sp n h y : ℕ} → Source len base sp n h → y < h → isEdge f y h ≡ false → (2 * sp ≤ base + y * (2 * sp)) × (base + y * (2 * sp) + lastRow f * sp + n ≤ len)

@@ -5,8 +5,10 @@
 //     rows       a row of a frame
 //     margins    clearing the margins of a frame's levels
 //     vertical   a row of a later level before it is halved
+//     halving    later levels from the level before, inside the frame
 //     refining   the planes of level 0 between its places
 mod canvas;
+mod halving;
 pub mod layout;
 mod levels;
 pub mod margins;

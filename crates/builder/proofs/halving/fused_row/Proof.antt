@@ -1,0 +1,76 @@
+-- `fused_row` meets its contract. Assumes nothing.
+use mathlib.Core.Path.{_≡_, ap, _∙_}
+use mathlib.Core.List.{List}
+use Prim.Native.Nat.{ℕ, _+_, _*_, _-_}
+use native.Mathlib.Omega.{arith}
+use lib.ListN.{replicate}
+use denote.Ref.{now}
+use Rattle.filters.specs.declared.halving.ReduceFilter.the-variants.{Cubic}
+use Rattle.builder.specs.Canvas.{put}
+use Rattle.builder.specs.Halving.{wholeOf, verticalLine, halveRun}
+use Rattle.builder.proofs.Lines.{line-length}
+use Rattle.builder.proofs.Halves.{row-within, fused-run}
+use borrow.Author.Needs.{needs}
+use Rattle.builder.proofs.halving.fused_row.Statement.{statement}
+use Rattle.builder.proofs.halving.fused_row.Tie as tie
+
+vertical-row-requires : tie.Need-vertical-row-requires
+vertical-row-requires c κs = search needs
+
+mul-at : tie.Need-mul-at
+mul-at c = omega (arith, row-within (c .before .before .before .before .before .before .before .before .before .pre .0) (c .before .before .before .before .before .before .before .before .before .pre .1))
+
+add-at : tie.Need-add-at
+add-at c = omega (arith, row-within (c .before .before .before .before .before .before .before .before .before .before .pre .0) (c .before .before .before .before .before .before .before .before .before .before .pre .1))
+
+halve-row-requires : tie.Need-halve-row-requires
+halve-row-requires c κs = (c .before .before .before .before .before .before .before .before .before .before .before .before .pre .0 .some, omega (arith, row-within (c .before .before .before .before .before .before .before .before .before .before .before .before .pre .0) (c .before .before .before .before .before .before .before .before .before .before .before .before .pre .1), c .before .before .before .before .before .before .before .before .before .before .before .before .pre .0 .fits, c .before .before .before .before .before .before .before .vertical-row .kept .1 .0, c .before .before .before .before .before .before .before .vertical-row .kept .1 .1 .0), omega (arith, c .before .before .before .before .before .before .before .before .before .before .before .before .pre .0 .fits, c .before .before .before .before .before .before .before .before .before .before .before .before .pre .0 .room, c .before .before .before .before .before .before .before .vertical-row .kept .1 .0, c .before .before .before .before .before .before .before .vertical-row .kept .1 .1 .0))
+
+mul-zero-run : tie.Need-mul-zero-run
+mul-zero-run c = search needs
+
+add-zero-run : tie.Need-add-zero-run
+add-zero-run c = omega (arith, row-within (c .before .before .before .before .before .before .before .before .before .before .before .before .before .before .before .before .before .before .before .pre .0) (c .before .before .before .before .before .before .before .before .before .before .before .before .before .before .before .before .before .before .before .pre .1), c .before .before .before .before .before .before .before .before .before .before .before .before .before .before .before .before .before .before .before .pre .0 .fits)
+
+add-zero-run-2 : tie.Need-add-zero-run-2
+add-zero-run-2 c = omega (arith, row-within (c .before .before .before .before .before .before .before .before .before .before .before .before .before .before .before .before .before .before .before .pre .0) (c .before .before .before .before .before .before .before .before .before .before .before .before .before .before .before .before .before .before .before .pre .1))
+
+zero-run-requires : tie.Need-zero-run-requires
+zero-run-requires c κs = (omega (arith, c .before .before .before .before .before .before .before .before .before .before .before .before .before .before .before .before .before .before .before .pre .0 .fits), omega (arith, row-within (c .before .before .before .before .before .before .before .before .before .before .before .before .before .before .before .before .before .before .before .pre .0) (c .before .before .before .before .before .before .before .before .before .before .before .before .before .before .before .before .before .before .before .pre .1), c .before .before .before .before .before .before .before .before .before .before .before .before .before .before .vertical-row .kept .1 .0, c .before .before .before .before .before .before .before .before .before .before .before .before .before .before .vertical-row .kept .1 .1 .0, c .before .before .before .before .before .before .halve-row .kept .1 .0))
+
+same-length : tie.Need-same-length
+same-length c = search needs
+
+same-length-2 : tie.Need-same-length-2
+same-length-2 c = search needs
+
+returns : tie.Need-returns
+returns c =
+    let s = c .before .before .before .before .before .before .before .before .before .before .before .before .before .before .before .before .before .before .before .before .before .before in
+    let t = s .args .target in
+    let w = t .width in
+    let p = s .args .pitch in
+    let at = t .offset + s .args .y * p in
+    let F = now (s .args .frame) in
+    let v = verticalLine Cubic (wholeOf Cubic (2 * w)) (2 * w) (t .height) F (s .args .base) p (s .args .y) in
+    let n : at + p - (at + 2 * w) ≡ p - 2 * w = omega arith in
+    c .before .before .zero-run .ensures
+    ∙ ap (λ (x : List ℕ). put x (at + 2 * w) (replicate (at + p - (at + 2 * w)) 0)) (c .before .before .before .before .before .before .before .before .before .halve-row .ensures ∙ ap (halveRun Cubic w at) (c .before .before .before .before .before .before .before .before .before .before .before .before .before .before .before .before .before .vertical-row .ensures))
+    ∙ ap (λ (k : ℕ). put (halveRun Cubic w at (put F at v)) (at + 2 * w) (replicate k 0)) n
+    ∙ fused-run p w at F v (line-length Cubic (wholeOf Cubic (2 * w)) (2 * w) (t .height) F (s .args .base) p (s .args .y) (omega arith)) (s .pre .0 .fits) (row-within (s .pre .0) (s .pre .1))
+
+pub fused-row-spec : {M : Type 1} → statement M
+fused-row-spec =
+    tie.close
+    (tie.spec
+    vertical-row-requires
+    mul-at
+    add-at
+    halve-row-requires
+    mul-zero-run
+    add-zero-run
+    add-zero-run-2
+    zero-run-requires
+    same-length
+    same-length-2
+    returns)

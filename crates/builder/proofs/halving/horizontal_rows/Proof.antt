@@ -1,0 +1,70 @@
+-- `horizontal_rows` meets its contract. The loop has halved the rows passed. Assumes nothing.
+use mathlib.Core.Path.{_≡_, refl, _∙_}
+use Prim.Native.Nat.{_+_, _*_, _-_}
+use native.Mathlib.Omega.{arith}
+use lib.ListN.{length}
+use Rattle.builder.specs.Halving.{halveRun, horizontalRows}
+use Rattle.builder.proofs.Runs.{Walked, walked-none, walked-more, walked-whole}
+use Rattle.builder.proofs.Halves.{row-within}
+use Rattle.builder.proofs.halving.horizontal_rows.Statement.{statement}
+use Rattle.builder.proofs.halving.horizontal_rows.Tie as tie
+
+abbrev Inv-loop : tie.InvT-loop
+Inv-loop filter frame₀ scratch₀ base pitch target height y₀ frame scratch y = Walked (λ i. halveRun filter (target .width) (target .offset + i * pitch)) frame₀ frame height y × (length scratch ≡ length scratch₀)
+
+abbrev μ-loop : tie.MeasureT-loop
+μ-loop filter frame₀ scratch₀ base pitch target height y₀ frame scratch y = height - y
+
+loop-holds : tie.Need-loop-holds Inv-loop μ-loop
+loop-holds c = (walked-none, refl)
+
+mul-at : tie.Need-mul-at Inv-loop μ-loop
+mul-at c = omega (arith, row-within (c .before .before .before .before .pre) (c .loop-test .taken))
+
+add-at : tie.Need-add-at Inv-loop μ-loop
+add-at c = omega (arith, row-within (c .before .before .before .before .before .pre) (c .before .loop-test .taken))
+
+halve-row-requires : tie.Need-halve-row-requires Inv-loop μ-loop
+halve-row-requires c κs =
+    let s = c .before .before .before .before .before .before .before in
+    let l = c .before .before .before .before .loop in
+    (s .pre .some, omega (arith, row-within (s .pre) (c .before .before .before .loop-test .taken), s .pre .fits, l .inv .0 .same), omega (arith, s .pre .fits, s .pre .room, l .inv .1))
+
+add-y : tie.Need-add-y Inv-loop μ-loop
+add-y c = omega arith
+
+loop-less : tie.Need-loop-less Inv-loop μ-loop
+loop-less c = omega arith
+
+loop-again : tie.Need-loop-again Inv-loop μ-loop
+loop-again c =
+    let l = c .before .before .before .before .before .before .before .before .before .loop in
+    let v = c .before .before .before .before .halve-row in
+    (walked-more (l .inv .0) (c .before .before .before .before .before .before .before .before .loop-test .taken) (v .kept .1 .0) (v .ensures), v .kept .1 .1 .0 ∙ l .inv .1)
+
+same-length : tie.Need-same-length Inv-loop μ-loop
+same-length c = c .before .loop .inv .0 .same
+
+same-length-2 : tie.Need-same-length-2 Inv-loop μ-loop
+same-length-2 c = c .before .loop .inv .1
+
+returns : tie.Need-returns Inv-loop μ-loop
+unfolding horizontalRows
+returns c = walked-whole (c .before .loop .inv .0) (c .loop-test .left)
+
+pub horizontal-rows-spec : {M : Type 1} → statement M
+horizontal-rows-spec =
+    tie.close
+    (tie.spec
+    Inv-loop
+    μ-loop
+    loop-holds
+    mul-at
+    add-at
+    halve-row-requires
+    add-y
+    loop-less
+    loop-again
+    same-length
+    same-length-2
+    returns)
