@@ -8,9 +8,11 @@
 #define EXPORT __attribute__((visibility("default")))
 typedef uint64_t plugin_id;
 struct block;
+struct instruction;
 extern void qemu_plugin_register_vcpu_tb_trans_cb(plugin_id, void (*)(plugin_id, struct block *));
 extern size_t qemu_plugin_tb_n_insns(const struct block *);
-extern void qemu_plugin_register_vcpu_tb_exec_inline(struct block *, int op, void *to, uint64_t add);
+extern struct instruction *qemu_plugin_tb_get_insn(const struct block *, size_t);
+extern void qemu_plugin_register_vcpu_insn_exec_inline(struct instruction *, int op, void *to, uint64_t add);
 extern void qemu_plugin_register_atexit_cb(plugin_id, void (*)(plugin_id, void *), void *);
 
 EXPORT int qemu_plugin_version = 1;
@@ -18,7 +20,9 @@ static uint64_t count;
 
 static void translated(plugin_id id, struct block *b) {
     (void)id;
-    qemu_plugin_register_vcpu_tb_exec_inline(b, 0, &count, qemu_plugin_tb_n_insns(b));
+    /* One by one: a block counts an instruction that lies across two pages of code, and so does the next. */
+    for (size_t i = 0; i < qemu_plugin_tb_n_insns(b); i++)
+        qemu_plugin_register_vcpu_insn_exec_inline(qemu_plugin_tb_get_insn(b, i), 0, &count, 1);
 }
 
 static void ended(plugin_id id, void *p) {
