@@ -2,19 +2,21 @@
 use mathlib.Core.Path.{_≡_, refl, sym, ap, _∙_}
 use mathlib.Core.List.{List, [], _∷_, _++_, append-assoc}
 use Prim.Native.Nat.{ℕ, suc, _+_, _*_, _-_, _≤_, _<_}
+use native.Mathlib.Nat.{mul-le-mul-right, add-mul}
 use native.Mathlib.Numerals.{add-one}
 use native.Mathlib.Omega.{arith}
 use lib.ListN.{length, getD, take, drop, set, length-append, length-drop, length-set, take-append-drop}
 use lib.Seq.{drop-cons, set-at, append-snoc, length-take-le}
 use Rattle.filters.specs.Row.{tab, meanOf, meansOf}
-use Rattle.filters.specs.Refine.{halfVertical}
+use Rattle.filters.specs.Refine.{halfHorizontal, halfVertical}
 use Rattle.filters.specs.declared.half_pel.HalfPel.{HalfPel}
 use Rattle.filters.proofs.Tables.{tab-length, tab-ext}
-use Rattle.filters.proofs.Lengths.{means-length}
-use Rattle.builder.specs.Canvas.{fetch, put}
+use Rattle.filters.proofs.Lengths.{means-length, half-horizontal-length, half-vertical-length}
+use Rattle.builder.specs.Canvas.{fetch, put, copyRun}
 use Rattle.builder.specs.declared.refining.Interp.{Interp}
-use Rattle.builder.specs.Refining.{pairRun, verticalRun}
-use Rattle.builder.proofs.Runs.{fetch-at, fetch-length, fetch-left, fetch-before, fetch-stored, put-plain, put-before, put-left, put-length}
+use Rattle.builder.specs.Refining.{pairRun, pairPlane, horizontalPlane, verticalRun, verticalPlane, planeAt, meanPlanes, kernelPlanes}
+use Rattle.builder.specs.Room.{PairPlane, OnePlane, Planes, Halves}
+use Rattle.builder.proofs.Runs.{Inside, inside-put, inside-then, inside-steps, row-in, row-fits, fetch-at, fetch-length, fetch-left, fetch-before, fetch-stored, put-plain, put-before, put-left, put-length}
 
 tab-next : (f : ℕ → ℕ) (n : ℕ) → tab f (n + 1) ≡ tab f n ++ (f n ∷ [])
 unfolding tab
@@ -110,3 +112,105 @@ vertical-rows k i s y n a2 a1 F m2 m1 c0 p1 p2 p3 e b2 b1 f2 f1 g0 g1 g2 g3 = rw
 -- a canvas whose frame and spill kept their lengths
 pub both-lengths : (F S G T : List ℕ) → length F ≡ length G → length S ≡ length T → length (F ++ S) ≡ length (G ++ T)
 both-lengths F S G T e f = length-append F S ∙ omega (arith, length-append G T)
+
+-- ---- k planes in a frame
+module _ {k len scratch : ℕ} {i : Interp} (P : Planes k len scratch i) where
+  pub plane-fits : (j t : ℕ) → j < k → t ≡ planeAt i j → t + i .height * i .pitch ≤ len
+  plane-fits j t lt e = omega (arith, row-in j k (i .height * i .pitch) lt, P .inside, e)
+
+  -- a plane is longer than a row, and one byte
+  plane-long : i .pitch + 3 ≤ i .height * i .pitch + 1
+  plane-long = omega (arith, mul-le-mul-right (i .pitch) (P .high), P .wide, P .fits)
+
+  pub first-row-fits : (j t s : ℕ) → j < k → t ≡ planeAt i j → s ≤ 1 → (s + i .width ≤ len) × (t + i .width ≤ len) × (i .width ≤ scratch)
+  first-row-fits j t s lt e few =
+      (omega (arith, plane-fits j t lt e, plane-long, P .fits), omega (arith, plane-fits j t lt e, plane-long, P .fits), omega (arith, P .fits, P .room))
+
+  -- from plane 0 and a place that is a row and a byte on at most
+  pub pair-fits : (j t x spill : ℕ) → j < k → 2 ≤ k → t ≡ planeAt i j → x ≤ i .pitch + 1 → 16 ≤ spill → PairPlane len spill scratch i t 0 x
+  pair-fits j t x spill lt some e near beyond =
+      let second = plane-fits 1 (planeAt i 1) some refl in
+      record {
+        fits = P .fits;
+        most = P .most-pitch;
+        target = plane-fits j t lt e;
+        left = omega (arith, second);
+        right = omega (arith, second, plane-long);
+        beyond = beyond;
+        room = P .room;
+      }
+
+  pub horizontal-fits : (j t m s : ℕ) → j < k → t ≡ planeAt i j → m < k → s ≡ planeAt i m → OnePlane len scratch (i .height) i t s
+  horizontal-fits j t m s lt e lt' e' =
+      record { fits = P .fits; most = P .most-height; source = plane-fits m s lt' e'; target = plane-fits j t lt e; room = omega (arith, P .fits, P .room) }
+
+  -- rows of plane 0 and three more
+  pub vertical-fits : (j t : ℕ) → j < k → 3 ≤ k → t ≡ planeAt i j → OnePlane len scratch (i .height + 3) i t 0
+  vertical-fits j t lt some e =
+      record {
+        fits = P .fits;
+        most = P .most-height;
+        source = omega (arith, add-mul (i .height) 3 (i .pitch), plane-fits 2 (planeAt i 2) some refl, mul-le-mul-right (i .pitch) (P .high));
+        target = plane-fits j t lt e;
+        room = omega (arith, P .fits, P .room);
+      }
+
+pub planes-kept : {k len scratch len' scratch' : ℕ} {i : Interp} → Planes k len scratch i → len' ≡ len → scratch' ≡ scratch → Planes k len' scratch' i
+planes-kept P e f =
+    record {
+      wide = P .wide;
+      fits = P .fits;
+      most-pitch = P .most-pitch;
+      high = P .high;
+      most-height = P .most-height;
+      inside = omega (arith, P .inside, e);
+      room = omega (arith, P .room, f);
+    }
+
+-- ---- stages that stay inside a frame
+pub copy-inside : (len s t n : ℕ) → s + n ≤ len → t + n ≤ len → Inside len (copyRun s t n)
+unfolding copyRun
+copy-inside len s t n hs ht = inside-put len t n (λ c. fetch c s n) ht (λ c. fetch-length c s n) (λ c S e. fetch-left c S s n (omega (arith, e)))
+
+horizontal-inside : (k : HalfPel) (len scratch : ℕ) (i : Interp) (t s : ℕ) → OnePlane len scratch (i .height) i t s → Inside len (horizontalPlane k i t s)
+unfolding horizontalPlane
+horizontal-inside k len scratch i t s o =
+    let w = i .width in
+    inside-steps len _ (i .height)
+    (λ y lt.
+    inside-put len (t + y * i .pitch) w (λ c. halfHorizontal k w (fetch c (s + y * i .pitch) w)) (row-fits len t w (i .pitch) (i .height) y (o .fits) (o .target) lt)
+    (λ c. half-horizontal-length k w (fetch c (s + y * i .pitch) w))
+    (λ c S e.
+    let r = row-fits len s w (i .pitch) (i .height) y (o .fits) (o .source) lt in
+    ap (halfHorizontal k w) (fetch-left c S (s + y * i .pitch) w (omega (arith, r, e)))))
+
+vertical-inside : (k : HalfPel) (len scratch : ℕ) (i : Interp) (t s : ℕ) → OnePlane len scratch (i .height + 3) i t s → Inside len (verticalPlane k i t s)
+unfolding verticalPlane verticalRun
+vertical-inside k len scratch i t s o =
+    let w = i .width in
+    let p = i .pitch in
+    inside-steps len _ (i .height)
+    (λ y lt.
+    inside-put len (t + y * p) w (verticalRun k i s y) (row-fits len t w p (i .height) y (o .fits) (o .target) lt)
+    (λ c. half-vertical-length k y (i .height) w _ _ _ _ _ _)
+    (λ c S e.
+    let row : (j : ℕ) → j < i .height + 3 → fetch c (s + j * p) w ≡ fetch (c ++ S) (s + j * p) w = λ j h. fetch-left c S (s + j * p) w (omega (arith, row-fits len s w p (i .height + 3) j (o .fits) (o .source) h, e)) in
+    rw (row (y - 2) (omega arith), row (y - 1) (omega arith), row y (omega arith), row (y + 1) (omega arith), row (y + 2) (omega arith), row (y + 3) (omega arith))))
+
+pub kernel-inside : (k : HalfPel) (len scratch : ℕ) (i : Interp) (a b d : ℕ) → Halves a b d → Planes (d + 1) len scratch i → Inside len (kernelPlanes k i a b d)
+unfolding kernelPlanes
+kernel-inside k len scratch i a b d h P =
+    inside-then
+    (inside-then
+    (horizontal-inside k len scratch i (planeAt i a) 0 (horizontal-fits P a (planeAt i a) 0 0 (omega (arith, h .across)) refl (omega arith) (omega arith)))
+    (vertical-inside k len scratch i (planeAt i b) 0 (vertical-fits P b (planeAt i b) (omega (arith, h .below)) (omega (arith, h .some)) refl)))
+    (horizontal-inside k len scratch i (planeAt i d) (planeAt i b) (horizontal-fits P d (planeAt i d) b (planeAt i b) (omega arith) refl (omega (arith, h .below)) refl))
+
+-- ---- the stages one after the other
+pub mean-stages : (i : Interp) (a b d A B D : ℕ) → A ≡ planeAt i a → B ≡ planeAt i b → D ≡ planeAt i d → (c c1 c2 c3 c4 c5 : List ℕ) → c1 ≡ pairPlane i A 0 1 c → c2 ≡ pairPlane i B 0 (i .pitch) c1 → c3 ≡ copyRun 0 B (i .width) c2 → c4 ≡ pairPlane i D 0 (i .pitch + 1) c3 → c5 ≡ copyRun 1 D (i .width) c4 → c5 ≡ meanPlanes i a b d c
+unfolding meanPlanes
+mean-stages i a b d A B D ea eb ed c c1 c2 c3 c4 c5 e1 e2 e3 e4 e5 = rw (e5, e4, e3, e2, e1, ea, eb, ed)
+
+pub kernel-stages : (k : HalfPel) (i : Interp) (a b d A B D : ℕ) → A ≡ planeAt i a → B ≡ planeAt i b → D ≡ planeAt i d → (c c1 c2 c3 : List ℕ) → c1 ≡ horizontalPlane k i A 0 c → c2 ≡ verticalPlane k i B 0 c1 → c3 ≡ horizontalPlane k i D B c2 → c3 ≡ kernelPlanes k i a b d c
+unfolding kernelPlanes
+kernel-stages k i a b d A B D ea eb ed c c1 c2 c3 e1 e2 e3 = rw (e3, e2, e1, ea, eb, ed)

@@ -3,6 +3,7 @@ use Prim.Native.Nat.{ℕ, _+_, _*_, _≤_}
 use Rattle.settings.specs.Limits.{mostSide, mostPitch}
 use Rattle.builder.specs.declared.layout.Region.{Region}
 use Rattle.builder.specs.declared.refining.Interp.{Interp}
+use Rattle.builder.specs.declared.refining.Pair.{Pair}
 
 -- a source of len bytes has, from base on, 2 * h rows of n bytes, sp apart
 pub record Source (len base sp n h : ℕ) : Type 0 where
@@ -54,12 +55,26 @@ pub record OnePlane (len scratch rows : ℕ) (i : Interp) (t s : ℕ) : Type 0 w
   pub room : i .width ≤ scratch
 
 -- k planes lie in a frame of len bytes, from its start
-pub record Planes (k len spill scratch : ℕ) (i : Interp) : Type 0 where
+pub record Planes (k len scratch : ℕ) (i : Interp) : Type 0 where
   pub wide : 2 ≤ i .width
   pub fits : i .width ≤ i .pitch
   pub most-pitch : i .pitch ≤ mostPitch
   pub high : 2 ≤ i .height
   pub most-height : i .height ≤ mostSide
   pub inside : k * (i .height * i .pitch) ≤ len
-  pub beyond : 16 ≤ spill
   pub room : 16 * (i .pitch + 16) ≤ scratch
+
+-- the horizontal, vertical and diagonal plane, of which d is the last
+pub record Halves (a b d : ℕ) : Type 0 where
+  pub across : a ≤ d
+  pub below : b ≤ d
+  pub some : 2 ≤ d
+  pub most : d ≤ 15
+
+-- a pair of 16 planes: one follows the left, so that it can be read further on
+pub record Quarter (q : Pair) : Type 0 where
+  pub target : q .target ≤ 15
+  pub left : q .left ≤ 14
+  pub right : q .right ≤ 15
+  pub across : q .across ≤ 1
+  pub below : q .below ≤ 1

@@ -7,13 +7,14 @@ ghost use lib.ListN.{length};
 ghost use Rattle.settings.specs.Limits.{mostSide, mostPitch};
 ghost use Rattle.filters.specs.Refine.{halfHorizontal};
 ghost use Rattle.builder.specs.Canvas.{fetch, put, copyRun};
-ghost use Rattle.builder.specs.Refining.{chunked, pairRun, pairPlane, horizontalPlane, verticalRun, verticalPlane};
-ghost use Rattle.builder.specs.Room.{PairRow, PairPlane, OnePlane};
+ghost use Rattle.builder.specs.Refining.{chunked, pairRun, pairPlane, horizontalPlane, verticalRun, verticalPlane, planeAt, meanPlanes, kernelPlanes, halfPlanes};
+ghost use Rattle.builder.specs.Room.{PairRow, PairPlane, OnePlane, Planes, Halves};
 use crate::canvas::fetch;
 use crate::canvas::put;
 use crate::canvas::span;
 use crate::canvas::store;
 use filters::half_pel::HalfPel;
+use filters::half_pel::Upscale;
 use filters::rows::copy_row;
 use filters::rows::mean;
 
@@ -214,6 +215,76 @@ impl Interp {
         let height = self.height;
         for y in 0..height {
             self.vertical_row(kernel, frame, scratch, t, s, y);
+        }
+    }
+
+    // Where plane k starts.
+    fn plane(self, k: usize) -> usize
+        requires { ⌜ (k ≤ 15) × (self .height ≤ mostSide) × (self .pitch ≤ mostPitch) ⌝ }
+        ensures { λ r. ⌜ r ≡ planeAt self k ⌝ }
+    {
+        k * (self.height * self.pitch)
+    }
+
+    fn mean_planes(
+        self,
+        frame: &mut [u8],
+        spill: &mut [u8],
+        scratch: &mut [u8],
+        a: usize,
+        b: usize,
+        d: usize,
+    )
+        requires { ⌜ (Halves a b d) × (Planes (d + 1) (length (now frame)) (length (now scratch)) self) × (16 ≤ length (now spill)) ⌝ }
+        ensures { λ r. ⌜ now (frame .exit) ++ now (spill .exit) ≡ meanPlanes self a b d (now (frame .entry) ++ now (spill .entry)) ⌝ }
+    {
+        let horizontal = self.plane(a);
+        let vertical = self.plane(b);
+        let diagonal = self.plane(d);
+        self.pair(frame, spill, scratch, horizontal, 0, 1);
+        self.pair(frame, spill, scratch, vertical, 0, self.pitch);
+        self.copy_first_row(frame, scratch, vertical, 0);
+        self.pair(frame, spill, scratch, diagonal, 0, self.pitch + 1);
+        self.copy_first_row(frame, scratch, diagonal, 1);
+    }
+
+    fn kernel_planes(
+        self,
+        kernel: HalfPel,
+        frame: &mut [u8],
+        scratch: &mut [u8],
+        a: usize,
+        b: usize,
+        d: usize,
+    )
+        requires { ⌜ (Halves a b d) × (Planes (d + 1) (length (now frame)) (length (now scratch)) self) ⌝ }
+        ensures { λ r. ⌜ now (frame .exit) ≡ kernelPlanes kernel self a b d (now (frame .entry)) ⌝ }
+    {
+        let horizontal = self.plane(a);
+        let vertical = self.plane(b);
+        let diagonal = self.plane(d);
+        self.horizontal(kernel, frame, scratch, horizontal, 0);
+        self.vertical(kernel, frame, scratch, vertical, 0);
+        self.horizontal(kernel, frame, scratch, diagonal, vertical);
+    }
+
+    // The planes at half places: horizontal a, vertical b, diagonal d.
+    fn half_planes(
+        self,
+        frame: &mut [u8],
+        spill: &mut [u8],
+        scratch: &mut [u8],
+        upscale: Upscale,
+        a: usize,
+        b: usize,
+        d: usize,
+    )
+        requires { ⌜ (Halves a b d) × (Planes (d + 1) (length (now frame)) (length (now scratch)) self) × (16 ≤ length (now spill)) ⌝ }
+        ensures { λ r. ⌜ now (frame .exit) ++ now (spill .exit) ≡ halfPlanes upscale self a b d (now (frame .entry) ++ now (spill .entry)) ⌝ }
+    {
+        match upscale {
+            Upscale::Means => self.mean_planes(frame, spill, scratch, a, b, d),
+            Upscale::Kernel(kernel) => self.kernel_planes(kernel, frame, scratch, a, b, d),
         }
     }
 }

@@ -1,0 +1,72 @@
+-- `half_planes` meets its contract. Assumes nothing.
+use mathlib.Core.Path.{refl, sym, ap, _∙_}
+use mathlib.Core.List.{List, _++_}
+use Prim.Native.Nat.{ℕ, _+_, _-_}
+use lib.ListN.{length}
+use denote.Ref.{now}
+use borrow.Author.Needs.{needs}
+use Rattle.filters.specs.declared.half_pel.Upscale.{Upscale}
+use Rattle.builder.specs.Refining.{halfPlanes}
+use Rattle.builder.proofs.Refined.{kernel-inside}
+use Rattle.builder.proofs.refining.Interp.half_planes.Statement.{statement}
+use Rattle.builder.proofs.refining.Interp.half_planes.Tie as tie
+
+enum-told : tie.Need-enum-told
+enum-told c = search needs
+
+mean-planes-requires : tie.Need-mean-planes-requires
+mean-planes-requires c κs = search needs
+
+enum-known-upscale : tie.Need-enum-known-upscale
+enum-known-upscale c = search needs
+
+kernel-planes-requires : tie.Need-kernel-planes-requires
+kernel-planes-requires c κs = search needs
+
+same-length : tie.Need-same-length
+same-length c = search needs
+
+same-length-2 : tie.Need-same-length-2
+same-length-2 c = search needs
+
+same-length-3 : tie.Need-same-length-3
+same-length-3 c = search needs
+
+returns : tie.Need-returns
+unfolding halfPlanes
+returns c =
+    let a = c .before .before .before .before .before .before .before .before .before .before .before .before .before .before .before .args in
+    c .before .before .before .before .before .before .mean-planes .ensures ∙ ap (λ (u : Upscale). halfPlanes u (a .self) (a .a) (a .b) (a .d) (now (a .frame) ++ now (a .spill))) (sym (c .before .before .before .before .before .before .before .before .before .before .enum-told .given .1))
+
+same-length-4 : tie.Need-same-length-4
+same-length-4 c = search needs
+
+same-length-5 : tie.Need-same-length-5
+same-length-5 c = search needs
+
+returns-2 : tie.Need-returns-2
+unfolding halfPlanes
+returns-2 c =
+    let a = c .before .before .before .before .before .before .before .before .before .before .before .before .before .args in
+    let F = now (a .frame) in
+    let S = now (a .spill) in
+    let told = c .before .before .before .before .before .before .before .before .upscale .given in
+    ap (λ (x : List ℕ). x ++ S) (c .before .before .before .before .kernel-planes .ensures)
+    ∙ kernel-inside (told .0 .0) (length F) (length (now (a .scratch))) (a .self) (a .a) (a .b) (a .d) (c .before .before .before .before .before .before .before .before .before .before .before .before .before .pre .0) (c .before .before .before .before .before .before .before .before .before .before .before .before .before .pre .1) .aside F S refl
+    ∙ ap (λ (u : Upscale). halfPlanes u (a .self) (a .a) (a .b) (a .d) (F ++ S)) (sym (told .1))
+
+pub half-planes-spec : {M : Type 1} → statement M
+half-planes-spec =
+    tie.close
+    (tie.spec
+    enum-told
+    mean-planes-requires
+    enum-known-upscale
+    kernel-planes-requires
+    same-length
+    same-length-2
+    same-length-3
+    returns
+    same-length-4
+    same-length-5
+    returns-2)
