@@ -1,10 +1,12 @@
 -- Laws of refining: a row stored in the list that it is read of; then a plane of rows; then the planes one after the other. Assumes nothing.
+use mathlib.Core.Bool.{Bool, true, false, _&&_}
 use mathlib.Core.Path.{_≡_, refl, sym, ap, _∙_}
 use mathlib.Core.List.{List, [], _∷_, _++_, append-assoc}
-use Prim.Native.Nat.{ℕ, suc, _+_, _*_, _-_, _≤_, _<_}
-use native.Mathlib.Nat.{mul-le-mul-right, add-mul}
+use Prim.Native.Nat.{ℕ, zero, suc, _+_, _*_, _-_, _≤_, _<_}
+use native.Mathlib.Nat.{mul-le-mul-right, add-mul, le-of-suc-le-suc, not-suc-le-zero}
 use native.Mathlib.Numerals.{add-one}
 use native.Mathlib.Omega.{arith}
+use lib.Dec.{T, leb, leb→le}
 use lib.ListN.{length, getD, take, drop, set, length-append, length-drop, length-set, take-append-drop}
 use lib.Seq.{drop-cons, set-at, append-snoc, length-take-le}
 use Rattle.filters.specs.Row.{tab, meanOf, meansOf}
@@ -12,10 +14,11 @@ use Rattle.filters.specs.Refine.{halfHorizontal, halfVertical}
 use Rattle.filters.specs.declared.half_pel.HalfPel.{HalfPel}
 use Rattle.filters.proofs.Tables.{tab-length, tab-ext}
 use Rattle.filters.proofs.Lengths.{means-length, half-horizontal-length, half-vertical-length}
-use Rattle.builder.specs.Canvas.{fetch, put, copyRun}
+use Rattle.builder.specs.Canvas.{fetch, put, steps, copyRun}
 use Rattle.builder.specs.declared.refining.Interp.{Interp}
-use Rattle.builder.specs.Refining.{pairRun, pairPlane, horizontalPlane, verticalRun, verticalPlane, planeAt, meanPlanes, kernelPlanes}
-use Rattle.builder.specs.Room.{PairPlane, OnePlane, Planes, Halves}
+use Rattle.builder.specs.declared.refining.Pair.{Pair}
+use Rattle.builder.specs.Refining.{pairRun, pairPlane, horizontalPlane, verticalRun, verticalPlane, planeAt, meanPlanes, kernelPlanes, pairOf, pairs, quarter, foldPairs}
+use Rattle.builder.specs.Room.{PairPlane, OnePlane, Planes, Halves, Quarter}
 use Rattle.builder.proofs.Runs.{Inside, inside-put, inside-then, inside-steps, row-in, row-fits, fetch-at, fetch-length, fetch-left, fetch-before, fetch-stored, put-plain, put-before, put-left, put-length}
 
 tab-next : (f : ℕ → ℕ) (n : ℕ) → tab f (n + 1) ≡ tab f n ++ (f n ∷ [])
@@ -167,6 +170,18 @@ planes-kept P e f =
       room = omega (arith, P .room, f);
     }
 
+pub planes-fewer : {j k len scratch : ℕ} {i : Interp} → Planes k len scratch i → j ≤ k → Planes j len scratch i
+planes-fewer {j} {k} {len} {scratch} {i} P few =
+    record {
+      wide = P .wide;
+      fits = P .fits;
+      most-pitch = P .most-pitch;
+      high = P .high;
+      most-height = P .most-height;
+      inside = omega (arith, P .inside, mul-le-mul-right (i .height * i .pitch) few);
+      room = P .room;
+    }
+
 -- ---- stages that stay inside a frame
 pub copy-inside : (len s t n : ℕ) → s + n ≤ len → t + n ≤ len → Inside len (copyRun s t n)
 unfolding copyRun
@@ -214,3 +229,72 @@ mean-stages i a b d A B D ea eb ed c c1 c2 c3 c4 c5 e1 e2 e3 e4 e5 = rw (e5, e4,
 pub kernel-stages : (k : HalfPel) (i : Interp) (a b d A B D : ℕ) → A ≡ planeAt i a → B ≡ planeAt i b → D ≡ planeAt i d → (c c1 c2 c3 : List ℕ) → c1 ≡ horizontalPlane k i A 0 c → c2 ≡ verticalPlane k i B 0 c1 → c3 ≡ horizontalPlane k i D B c2 → c3 ≡ kernelPlanes k i a b d c
 unfolding kernelPlanes
 kernel-stages k i a b d A B D ea eb ed c c1 c2 c3 e1 e2 e3 = rw (e3, e2, e1, ea, eb, ed)
+
+-- ---- the pairs between the planes at half places
+abbrev pub cut : Interp → Pair → Interp
+cut i q = record { pitch = i .pitch; width = i .width - q .across; height = i .height - q .below }
+
+pub quarter-fits : {len scratch : ℕ} {i : Interp} {q : Pair} (spill T L R : ℕ) → Planes 16 len scratch i → Quarter q → 16 ≤ spill → T ≡ planeAt i (q .target) → L ≡ planeAt i (q .left) → R ≡ planeAt i (q .right) → PairPlane len spill scratch (cut i q) T (L + q .across + q .below * i .pitch) R
+quarter-fits {len} {scratch} {i} {q} spill T L R P Q beyond eT eL eR =
+    let h = i .height in
+    let p = i .pitch in
+    let fewer : (h - q .below) * p ≤ h * p = mul-le-mul-right p (omega arith) in
+    let back : q .below + (h - q .below) ≡ h = omega (arith, Q .below, P .high) in
+    let whole : q .below * p + (h - q .below) * p ≡ h * p = sym (add-mul (q .below) (h - q .below) p) ∙ ap (λ (k : ℕ). k * p) back in
+    let next : planeAt i (q .left + 1) ≡ L + h * p = add-mul (q .left) 1 (h * p) ∙ omega (arith, eL) in
+    let after = plane-fits P (q .left + 1) (planeAt i (q .left + 1)) (omega (arith, Q .left)) refl in
+    record {
+      fits = omega (arith, P .fits);
+      most = P .most-pitch;
+      target = omega (arith, fewer, plane-fits P (q .target) T (omega (arith, Q .target)) eT);
+      left = omega (arith, whole, next, after, Q .across, plane-long P);
+      right = omega (arith, fewer, plane-fits P (q .right) R (omega (arith, Q .right)) eR);
+      beyond = beyond;
+      room = P .room;
+    }
+
+pub quarter-made : (i : Interp) (q : Pair) (T L R : ℕ) (c : List ℕ) → T ≡ planeAt i (q .target) → L ≡ planeAt i (q .left) → R ≡ planeAt i (q .right) → pairPlane (cut i q) T (L + q .across + q .below * i .pitch) R c ≡ quarter i q c
+unfolding quarter
+quarter-made i q T L R c eT eL eR = rw (eT, eL, eR)
+
+and-left : (a b : Bool) → T (a && b) → T a
+and-left true b t = tt
+and-left false b t = t
+
+and-right : (a b : Bool) → T (a && b) → T b
+and-right true b t = t
+and-right false b t = absurd t
+
+-- `Quarter` as a test, and of each row of the table
+abbrev isQuarter : Pair → Bool
+isQuarter q = leb (q .target) 15 && (leb (q .left) 14 && (leb (q .right) 15 && (leb (q .across) 1 && leb (q .below) 1)))
+
+is-quarter : (q : Pair) → T (isQuarter q) → Quarter q
+is-quarter q t =
+    let l = and-right (leb (q .target) 15) _ t in
+    let r = and-right (leb (q .left) 14) _ l in
+    let a = and-right (leb (q .right) 15) _ r in
+    record {
+      target = leb→le (q .target) 15 (and-left (leb (q .target) 15) _ t);
+      left = leb→le (q .left) 14 (and-left (leb (q .left) 14) _ l);
+      right = leb→le (q .right) 15 (and-left (leb (q .right) 15) _ r);
+      across = leb→le (q .across) 1 (and-left (leb (q .across) 1) _ a);
+      below = leb→le (q .below) 1 (and-right (leb (q .across) 1) _ a);
+    }
+
+abbrev allQuarters : List Pair → Bool
+allQuarters [] = true
+allQuarters (q ∷ qs) = isQuarter q && allQuarters qs
+
+all-at : (qs : List Pair) → T (allQuarters qs) → (k : ℕ) → k < length qs → T (isQuarter (getD qs k (pairOf 0 0 0 0 0)))
+all-at [] t k h = absurd (not-suc-le-zero h)
+all-at (q ∷ qs) t zero h = and-left (isQuarter q) (allQuarters qs) t
+all-at (q ∷ qs) t (suc k) h = all-at qs (and-right (isQuarter q) (allQuarters qs) t) k (le-of-suc-le-suc h)
+
+pub table-row : (k : ℕ) → k < 12 → Quarter (getD pairs k (pairOf 0 0 0 0 0))
+table-row k h = is-quarter (getD pairs k (pairOf 0 0 0 0 0)) (all-at pairs tt k h)
+
+-- walked by index
+pub table-walked : (i : Interp) (c : List ℕ) → steps (λ k. quarter i (getD pairs k (pairOf 0 0 0 0 0))) 12 c ≡ foldPairs (quarter i) pairs c
+unfolding steps foldPairs
+table-walked i c = refl

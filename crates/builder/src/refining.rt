@@ -2,13 +2,14 @@
 // First the means of two rows; then a plane from one or two others; then the planes at half places; then the table of the pairs between those; last the whole.
 ghost use mathlib.Core.Path.{_≡_};
 ghost use mathlib.Core.List.{_++_};
+ghost use mathlib.Core.Logic.{_⊎_};
 ghost use Prim.Native.Nat.{_+_, _*_, _-_, _≤_, _<_};
 ghost use lib.ListN.{length};
 ghost use Rattle.settings.specs.Limits.{mostSide, mostPitch};
 ghost use Rattle.filters.specs.Refine.{halfHorizontal};
 ghost use Rattle.builder.specs.Canvas.{fetch, put, copyRun};
-ghost use Rattle.builder.specs.Refining.{chunked, pairRun, pairPlane, horizontalPlane, verticalRun, verticalPlane, planeAt, meanPlanes, kernelPlanes, halfPlanes};
-ghost use Rattle.builder.specs.Room.{PairRow, PairPlane, OnePlane, Planes, Halves};
+ghost use Rattle.builder.specs.Refining.{chunked, pairRun, pairPlane, horizontalPlane, verticalRun, verticalPlane, planeAt, meanPlanes, kernelPlanes, halfPlanes, pairs, quarter, foldPairs, refine};
+ghost use Rattle.builder.specs.Room.{PairRow, PairPlane, OnePlane, Planes, Halves, Quarter};
 use crate::canvas::fetch;
 use crate::canvas::put;
 use crate::canvas::span;
@@ -287,4 +288,136 @@ impl Interp {
             Upscale::Kernel(kernel) => self.kernel_planes(kernel, frame, scratch, a, b, d),
         }
     }
+}
+
+// The pairs between the planes at half places, in the order in which they are made.
+pub const PAIRS: [Pair; 12] = [
+    Pair {
+        target: 1,
+        left: 0,
+        right: 2,
+        across: 0,
+        below: 0,
+    },
+    Pair {
+        target: 9,
+        left: 8,
+        right: 10,
+        across: 0,
+        below: 0,
+    },
+    Pair {
+        target: 4,
+        left: 0,
+        right: 8,
+        across: 0,
+        below: 0,
+    },
+    Pair {
+        target: 6,
+        left: 2,
+        right: 10,
+        across: 0,
+        below: 0,
+    },
+    Pair {
+        target: 5,
+        left: 4,
+        right: 6,
+        across: 0,
+        below: 0,
+    },
+    Pair {
+        target: 3,
+        left: 0,
+        right: 2,
+        across: 1,
+        below: 0,
+    },
+    Pair {
+        target: 11,
+        left: 8,
+        right: 10,
+        across: 1,
+        below: 0,
+    },
+    Pair {
+        target: 12,
+        left: 0,
+        right: 8,
+        across: 0,
+        below: 1,
+    },
+    Pair {
+        target: 14,
+        left: 2,
+        right: 10,
+        across: 0,
+        below: 1,
+    },
+    Pair {
+        target: 13,
+        left: 12,
+        right: 14,
+        across: 0,
+        below: 0,
+    },
+    Pair {
+        target: 7,
+        left: 4,
+        right: 6,
+        across: 1,
+        below: 0,
+    },
+    Pair {
+        target: 15,
+        left: 12,
+        right: 14,
+        across: 1,
+        below: 0,
+    },
+];
+
+fn quarter(frame: &mut [u8], spill: &mut [u8], scratch: &mut [u8], i: Interp, q: Pair)
+    requires { ⌜ (Quarter q) × (Planes 16 (length (now frame)) (length (now scratch)) i) × (16 ≤ length (now spill)) ⌝ }
+    ensures { λ r. ⌜ now (frame .exit) ++ now (spill .exit) ≡ quarter i q (now (frame .entry) ++ now (spill .entry)) ⌝ }
+{
+    let part = Interp {
+        pitch: i.pitch,
+        width: i.width - q.across,
+        height: i.height - q.below,
+    };
+    let target = i.plane(q.target);
+    let left = i.plane(q.left) + q.across + q.below * i.pitch;
+    let right = i.plane(q.right);
+    part.pair(frame, spill, scratch, target, left, right);
+}
+
+fn quarters(frame: &mut [u8], spill: &mut [u8], scratch: &mut [u8], i: Interp)
+    requires { ⌜ (Planes 16 (length (now frame)) (length (now scratch)) i) × (16 ≤ length (now spill)) ⌝ }
+    ensures { λ r. ⌜ now (frame .exit) ++ now (spill .exit) ≡ foldPairs (quarter i) pairs (now (frame .entry) ++ now (spill .entry)) ⌝ }
+{
+    for k in 0..12 {
+        let q = PAIRS[k];
+        quarter(frame, spill, scratch, i, q);
+    }
+}
+
+pub fn refine(
+    frame: &mut [u8],
+    spill: &mut [u8],
+    scratch: &mut [u8],
+    i: Interp,
+    pel: u32,
+    upscale: Upscale,
+)
+    requires { ⌜ ((pel ≡ 2) ⊎ (pel ≡ 4)) × (Planes (pel * pel) (length (now frame)) (length (now scratch)) i) × (16 ≤ length (now spill)) ⌝ }
+    ensures { λ r. ⌜ now (frame .exit) ++ now (spill .exit) ≡ refine i pel upscale (now (frame .entry) ++ now (spill .entry)) ⌝ }
+{
+    if pel == 2 {
+        i.half_planes(frame, spill, scratch, upscale, 1, 2, 3);
+        return;
+    }
+    i.half_planes(frame, spill, scratch, upscale, 2, 8, 10);
+    quarters(frame, spill, scratch, i);
 }

@@ -1,0 +1,70 @@
+-- `quarter` meets its contract. Assumes nothing.
+use mathlib.Core.Path.{refl, _∙_}
+use mathlib.Core.List.{_++_}
+use Prim.Native.Nat.{_+_, _-_}
+use native.Mathlib.Omega.{arith}
+use denote.Ref.{now}
+use borrow.Author.Needs.{needs}
+use Rattle.builder.specs.Refining.{planeAt}
+use Rattle.builder.proofs.Refined.{quarter-fits, quarter-made}
+use Rattle.builder.proofs.refining.quarter.Statement.{statement}
+use Rattle.builder.proofs.refining.quarter.Tie as tie
+
+sub-left : tie.Need-sub-left
+sub-left c = search needs
+
+sub-left-2 : tie.Need-sub-left-2
+sub-left-2 c = search needs
+
+plane-requires : tie.Need-plane-requires
+plane-requires c κs = search needs
+
+plane-requires-2 : tie.Need-plane-requires-2
+plane-requires-2 c κs = search needs
+
+add-left : tie.Need-add-left
+add-left c = let a = c .before .before .before .before .before .before .before .before .before .before .args in omega (arith, quarter-fits 16 (planeAt (a .i) (a .q .target)) _ (planeAt (a .i) (a .q .right)) (c .before .before .before .before .before .before .before .before .before .before .pre .1) (c .before .before .before .before .before .before .before .before .before .before .pre .0) (omega arith) refl (c .before .plane2 .ensures) refl .left)
+
+mul-left : tie.Need-mul-left
+mul-left c = let a = c .before .before .before .before .before .before .before .before .before .before .before .before .args in omega (arith, quarter-fits 16 (planeAt (a .i) (a .q .target)) _ (planeAt (a .i) (a .q .right)) (c .before .before .before .before .before .before .before .before .before .before .before .before .pre .1) (c .before .before .before .before .before .before .before .before .before .before .before .before .pre .0) (omega arith) refl (c .before .before .before .plane2 .ensures) refl .left)
+
+add-left-2 : tie.Need-add-left-2
+add-left-2 c = let a = c .before .before .before .before .before .before .before .before .before .before .before .before .args in omega (arith, quarter-fits 16 (planeAt (a .i) (a .q .target)) _ (planeAt (a .i) (a .q .right)) (c .before .before .before .before .before .before .before .before .before .before .before .before .pre .1) (c .before .before .before .before .before .before .before .before .before .before .before .before .pre .0) (omega arith) refl (c .before .before .before .plane2 .ensures) refl .left)
+
+plane-requires-3 : tie.Need-plane-requires-3
+plane-requires-3 c κs = search needs
+
+pair-requires : tie.Need-pair-requires
+pair-requires c κs = quarter-fits _ _ _ _ (c .before .before .before .before .before .before .before .before .before .before .before .before .before .before .before .before .pre .1) (c .before .before .before .before .before .before .before .before .before .before .before .before .before .before .before .before .pre .0) (c .before .before .before .before .before .before .before .before .before .before .before .before .before .before .before .before .pre .2) (c .before .before .before .before .before .before .before .before .plane .ensures) (c .before .before .before .before .before .before .before .plane2 .ensures) (c .before .before .before .plane3 .ensures)
+
+same-length : tie.Need-same-length
+same-length c = search needs
+
+same-length-2 : tie.Need-same-length-2
+same-length-2 c = search needs
+
+same-length-3 : tie.Need-same-length-3
+same-length-3 c = search needs
+
+returns : tie.Need-returns
+returns c =
+    let a = c .before .before .before .before .before .before .before .before .before .before .before .before .before .before .before .before .before .before .before .before .before .before .before .args in
+    c .before .before .before .before .before .before .pair .ensures ∙ quarter-made (a .i) (a .q) _ _ _ (now (a .frame) ++ now (a .spill)) (c .before .before .before .before .before .before .before .before .before .before .before .before .before .before .before .plane .ensures) (c .before .before .before .before .before .before .before .before .before .before .before .before .before .before .plane2 .ensures) (c .before .before .before .before .before .before .before .before .before .before .plane3 .ensures)
+
+pub quarter-spec : {M : Type 1} → statement M
+quarter-spec =
+    tie.close
+    (tie.spec
+    sub-left
+    sub-left-2
+    plane-requires
+    plane-requires-2
+    add-left
+    mul-left
+    add-left-2
+    plane-requires-3
+    pair-requires
+    same-length
+    same-length-2
+    same-length-3
+    returns)
