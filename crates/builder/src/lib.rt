@@ -12,6 +12,6 @@ mod halving;
 pub mod layout;
 mod levels;
 pub mod margins;
-pub mod refining;
+mod refining;
 pub mod rows;
 mod vertical;

@@ -95,12 +95,14 @@ fn pair_row(
     pair_apart(frame, spill, scratch, t, l, r, n);
 }
 
-// The width raised to a multiple of 16.
+const SSE_CHUNK: usize = 16;
+
+// The width raised to whole chunks.
 fn chunked(w: usize) -> usize
     requires { ⌜ w ≤ mostPitch ⌝ }
     ensures { λ r. ⌜ (r ≡ chunked w) × (r ≤ w + 15) ⌝ }
 {
-    (w + 15) / 16 * 16
+    (w + SSE_CHUNK - 1) / SSE_CHUNK * SSE_CHUNK
 }
 
 // The row so far above, or the first.
