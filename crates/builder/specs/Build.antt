@@ -23,36 +23,34 @@ use Rattle.builder.specs.Refining.{refine}
 abbrev pub planesOf : Layout → Interp
 planesOf q = record { pitch = q .pitch; width = widthAt q 0; height = heightAt q 0 }
 
--- from the source plane src, whose rows are sp apart, in a frame of len bytes
-module _ (q : Layout) (src : List ℕ) (sp len : ℕ) where
-  -- "Level 0, if full: h rows of w bytes copied."
-  unfoldable pub copied : List ℕ → List ℕ
-  copied c = steps (λ y d. put d (y * q .pitch) (fetch src (y * sp) (widthAt q 0))) (heightAt q 0) c
+-- "Level 0, if full: h rows of w bytes copied", from the source plane src, whose rows are sp apart
+unfoldable pub copied : Layout → List ℕ → ℕ → List ℕ → List ℕ
+copied q src sp c = steps (λ y d. put d (y * q .pitch) (fetch src (y * sp) (widthAt q 0))) (heightAt q 0) c
 
-  -- level l, by the filter f: "Fused cubic is taken when the source level is stored and `cubic_fits` holds"; "Not full: level 1 comes from the source plane"
-  unfoldable pub halveLevel : ReduceFilter → ℕ → List ℕ → List ℕ
-  halveLevel f l c =
-      let base = offsetAt q (l - 1) in
-      cond (fusedAt q len l) (fused base (q .pitch) (regionAt q l) c)
-      (cond (q .opts .full || leb 2 l) (fromStored f base (q .pitch) (regionAt q l) c) (fromSource f src sp (q .pitch) (regionAt q l) c))
+-- level l, by the filter f, in a frame of len bytes: "Fused cubic is taken when the source level is stored and `cubic_fits` holds"; "Not full: level 1 comes from the source plane"
+unfoldable pub halveLevel : Layout → List ℕ → ℕ → ℕ → ReduceFilter → ℕ → List ℕ → List ℕ
+halveLevel q src sp len f l c =
+    let base = offsetAt q (l - 1) in
+    cond (fusedAt q len l) (fused base (q .pitch) (regionAt q l) c)
+    (cond (q .opts .full || leb 2 l) (fromStored f base (q .pitch) (regionAt q l) c) (fromSource f src sp (q .pitch) (regionAt q l) c))
 
-  -- "any other value leaves later levels unwritten"
-  unfoldable pub halved : Chosen → List ℕ → List ℕ
-  halved (Filter f) c = steps (λ i. halveLevel f (i + 1)) (levelsOf q - 1) c
-  halved NoFilter c = c
+-- "any other value leaves later levels unwritten"
+unfoldable pub halved : Layout → List ℕ → ℕ → ℕ → Chosen → List ℕ → List ℕ
+halved q src sp len (Filter f) c = steps (λ i. halveLevel q src sp len f (i + 1)) (levelsOf q - 1) c
+halved q src sp len NoFilter c = c
 
-  -- "Refining, after halving, if pel > 1, gpu < 2 and full."
-  abbrev pub refines : Bool
-  refines = ltb 1 (pelOf (q .opts)) && ltb (toNat (q .opts .gpu)) 2 && q .opts .full
+-- "Refining, after halving, if pel > 1, gpu < 2 and full."
+abbrev pub refines : Layout → Bool
+refines q = ltb 1 (pelOf (q .opts)) && ltb (toNat (q .opts .gpu)) 2 && q .opts .full
 
-  unfoldable pub refined : List ℕ → List ℕ
-  refined c = cond refines (refine (planesOf q) (pelOf (q .opts)) (upscale (q .opts .«scale_up»)) c) c
+unfoldable pub refined : Layout → List ℕ → List ℕ
+refined q c = cond (refines q) (refine (planesOf q) (pelOf (q .opts)) (upscale (q .opts .«scale_up»)) c) c
 
-  -- "With no level, no frame byte is written."
-  unfoldable pub built : List ℕ → List ℕ
-  built c =
-      let first = cond (q .opts .full) (copied c) c in
-      cond (eqb (levelsOf q) 0) c (first ▷ halved (chosen (q .opts .«scale_down»)) ▷ refined)
+-- the canvas c after a build in a frame of len bytes: "With no level, no frame byte is written."
+unfoldable pub built : Layout → List ℕ → ℕ → ℕ → List ℕ → List ℕ
+built q src sp len c =
+    let first = cond (q .opts .full) (copied q src sp c) c in
+    cond (eqb (levelsOf q) 0) c (first ▷ halved q src sp len (chosen (q .opts .«scale_down»)) ▷ refined q)
 
 -- "A byte stored past the frame goes to the spill", which holds zeros before; what is left is the frame
 unfoldable pub builtFrame : Layout → List ℕ → ℕ → List ℕ → List ℕ

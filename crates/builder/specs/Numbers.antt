@@ -39,12 +39,17 @@ rowNo q len l k y = frameNo q len then refuse (noRow q l k y) 19
 abbrev pub sourceNeed : Layout → ℕ → ℕ
 sourceNeed q sp = cond (eqb (widthAt q 0) 0 || eqb (heightAt q 0) 0) 0 ((heightAt q 0 - 1) * sp + widthAt q 0)
 
--- building, from a source of n bytes whose rows are sp apart, in a frame of len bytes, with so many bytes of spill and scratch
+-- what a build is lent: a source of n bytes whose rows are sp apart, a frame of len bytes, so many bytes of spill and scratch
+unfoldable pub lentNo : Layout → ℕ → ℕ → ℕ → ℕ → ℕ → ℕ
+lentNo q n sp len spill scratch =
+    refuse (ltb n (sourceNeed q sp)) 10
+    then refuse (ltb len (writtenEnd q)) 11
+    then refuse (ltb spill (spillNeed q)) 12
+    then refuse (ltb scratch (scratchNeed q)) 13
+
+-- building
 unfoldable pub buildNo : Layout → ℕ → ℕ → ℕ → ℕ → ℕ → ℕ
 buildNo q n sp len spill scratch =
     layoutNo q
     then refuse (badPitch sp (widthAt q 0)) 9
-    then refuse (ltb n (sourceNeed q sp)) 10
-    then refuse (ltb len (writtenEnd q)) 11
-    then refuse (ltb spill (spillNeed q)) 12
-    then refuse (ltb scratch (scratchNeed q)) 13
+    then lentNo q n sp len spill scratch

@@ -24,7 +24,7 @@ fn shifted(n: u32, shift: u32) -> u32
     0
 }
 
-fn bad_pitch(pitch: usize, least: usize) -> bool
+pub fn bad_pitch(pitch: usize, least: usize) -> bool
     ensures { λ r. ⌜ r ≡ badPitch pitch least ⌝ }
 {
     (pitch < 1) | (pitch < least) | (pitch > MOST_PITCH)

@@ -1,6 +1,7 @@
 // A plane's levels in a frame: open-svpflow's super_build.rs.
 //     layout     the regions of a plane's levels, and where they end
 //     levels     the numbers of one level, and the refusals of a layout
+//     lent       what a build needs of the slices that it is lent, and its refusals
 //     canvas     a frame and its spill as one run of bytes
 //     rows       a row of a frame
 //     margins    clearing the margins of a frame's levels
@@ -10,6 +11,7 @@
 mod canvas;
 mod halving;
 pub mod layout;
+mod lent;
 mod levels;
 pub mod margins;
 mod refining;
