@@ -6,6 +6,7 @@
 --     Lines      one row of a later level before it is halved
 --     Halves     a row of it halved in its place, and a row of the fused cubic
 --     Refined    a row stored in the list that it is read of; the planes of level 0
+--     Spreads    level 1 from the source plane: loops over the rows of a frame and its spill
 --     Known      an answer is known by its number and value
 --     ByHand     document 01's examples, computed
 --     Unique     no second outcome meets a public call's contract
@@ -17,6 +18,7 @@ pub mod Stored
 pub mod Lines
 pub mod Halves
 pub mod Refined
+pub mod Spreads
 pub mod Known
 pub mod ByHand
 pub mod Unique

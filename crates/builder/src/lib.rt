@@ -7,6 +7,7 @@
 //     margins    clearing the margins of a frame's levels
 //     vertical   a row of a later level before it is halved
 //     halving    later levels from the level before, inside the frame
+//     separate   level 1 from the source plane, where level 0 isn't stored
 //     refining   the planes of level 0 between its places
 mod canvas;
 mod halving;
@@ -16,4 +17,5 @@ mod levels;
 pub mod margins;
 mod refining;
 pub mod rows;
+mod separate;
 mod vertical;

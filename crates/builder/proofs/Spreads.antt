@@ -1,0 +1,64 @@
+-- Level 1 from the source plane: its rows lie in frame and spill, what a loop over them knows, and a row halved in its place. Assumes nothing.
+use mathlib.Core.Path.{_≡_, refl, ap, _∙_}
+use mathlib.Core.List.{List, _++_}
+use Prim.Native.Nat.{ℕ, _+_, _*_, _-_, _≤_, _<_}
+use native.Mathlib.Omega.{arith}
+use lib.ListN.{length, length-append}
+use Rattle.filters.specs.declared.halving.ReduceFilter.{ReduceFilter}
+use Rattle.filters.specs.Halve.{Apart, headed, reducedApart}
+use Rattle.filters.proofs.Pairs.{reduced-apart}
+use Rattle.builder.specs.declared.layout.Region.{Region}
+use Rattle.builder.specs.Canvas.{fetch, put}
+use Rattle.builder.specs.Halving.{halveRun}
+use Rattle.builder.specs.Room.{Spread}
+use Rattle.builder.proofs.Runs.{fetch-length, row-in, Walked, walked-none, walked-more, walked-next}
+
+-- ---- rows
+-- row y of h that are 2 * p apart
+pub spread-row : (t y h p : ℕ) {len : ℕ} → t + h * (2 * p) ≤ len → y < h → t + y * (2 * p) + 2 * p ≤ len
+spread-row t y h p fits lt = omega (arith, row-in y h (2 * p) lt)
+
+-- and where it closes up to
+pub closed-row : (t y h p : ℕ) {len : ℕ} → t + h * (2 * p) ≤ len → y < h → t + y * p + p ≤ len
+closed-row t y h p fits lt = omega (arith, row-in y h p lt)
+
+pub spread-same : {n sp len spill scratch len' spill' scratch' p : ℕ} {t : Region} → Spread n sp len spill scratch p t → len' ≡ len → spill' ≡ spill → scratch' ≡ scratch → Spread n sp len' spill' scratch' p t
+spread-same s e f g = rw (e, f, g) s
+
+-- ---- what a loop over the rows knows at its head, of frame, spill and scratch
+pub record Passed (step : ℕ → List ℕ → List ℕ) (F₀ S₀ X₀ F S X : List ℕ) (h y : ℕ) : Type 0 where
+  pub walk : Walked step (F₀ ++ S₀) (F ++ S) h y
+  pub frame : length F ≡ length F₀
+  pub spill : length S ≡ length S₀
+  pub scratch : length X ≡ length X₀
+
+pub passed-none : {step : ℕ → List ℕ → List ℕ} {F S X : List ℕ} {h : ℕ} → Passed step F S X F S X h 0
+passed-none = record { walk = walked-none; frame = refl; spill = refl; scratch = refl }
+
+both-same : (F S F' S' : List ℕ) → length F' ≡ length F → length S' ≡ length S → length (F' ++ S') ≡ length (F ++ S)
+both-same F S F' S' e f = length-append F' S' ∙ omega (arith, length-append F S)
+
+module _ {F₀ S₀ X₀ F S X F' S' X' : List ℕ} {h y : ℕ} where
+  pub passed-more : {step : ℕ → List ℕ → List ℕ} → Passed step F₀ S₀ X₀ F S X h y → y < h → length F' ≡ length F → length S' ≡ length S → length X' ≡ length X → F' ++ S' ≡ step y (F ++ S) → Passed step F₀ S₀ X₀ F' S' X' h (y + 1)
+  passed-more w lt ef es ex e =
+      record {
+        walk = walked-more (w .walk) lt (both-same F S F' S' ef es) e;
+        frame = ef ∙ w .frame;
+        spill = es ∙ w .spill;
+        scratch = ex ∙ w .scratch;
+      }
+
+  -- a loop that counts from 1
+  pub passed-next : (step : ℕ → List ℕ → List ℕ) → 1 ≤ y → Passed (λ i. step (i + 1)) F₀ S₀ X₀ F S X (h - 1) (y - 1) → y < h → length F' ≡ length F → length S' ≡ length S → length X' ≡ length X → F' ++ S' ≡ step y (F ++ S) → Passed (λ i. step (i + 1)) F₀ S₀ X₀ F' S' X' (h - 1) (y + 1 - 1)
+  passed-next step some w lt ef es ex e =
+      record {
+        walk = walked-next step some (w .walk) lt (both-same F S F' S' ef es) e;
+        frame = ef ∙ w .frame;
+        spill = es ∙ w .spill;
+        scratch = ex ∙ w .scratch;
+      }
+
+-- ---- a row halved in its place, from its pairs taken apart
+pub halved-run : (f : ReduceFilter) (w at : ℕ) (c : List ℕ) {s : List ℕ} → 1 ≤ w → Apart w w (headed (fetch c at (2 * w))) s → put c at (reducedApart f w s) ≡ halveRun f w at c
+unfolding halveRun
+halved-run f w at c some apart = ap (put c at) (reduced-apart f (fetch c at (2 * w)) some (omega (arith, fetch-length c at (2 * w))) apart)

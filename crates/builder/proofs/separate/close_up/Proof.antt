@@ -1,0 +1,98 @@
+-- `close_up` meets its contract. The loop has closed up the rows passed. Assumes nothing.
+use Prim.Native.Nat.{_+_, _*_, _-_, _≤_}
+use native.Mathlib.Omega.{arith}
+use Rattle.builder.specs.Canvas.{copyRun}
+use Rattle.builder.specs.Halving.{closeUp}
+use Rattle.builder.proofs.Runs.{walked-whole}
+use Rattle.builder.proofs.Spreads.{spread-row, closed-row, Passed, passed-none, passed-next}
+use Rattle.builder.proofs.separate.close_up.Statement.{statement}
+use Rattle.builder.proofs.separate.close_up.Tie as tie
+
+abbrev Inv-loop : tie.InvT-loop
+Inv-loop frame₀ spill₀ scratch₀ pitch target height y₀ frame spill scratch y =
+    (1 ≤ y) × Passed (λ i. copyRun (target .offset + (i + 1) * (2 * pitch)) (target .offset + (i + 1) * pitch) pitch) frame₀ spill₀ scratch₀ frame spill scratch (height - 1) (y - 1)
+
+abbrev μ-loop : tie.MeasureT-loop
+μ-loop frame₀ spill₀ scratch₀ pitch target height y₀ frame spill scratch y = height - y
+
+loop-holds : tie.Need-loop-holds Inv-loop μ-loop
+loop-holds c = (omega arith, passed-none)
+
+mul-from : tie.Need-mul-from Inv-loop μ-loop
+mul-from c =
+    let s = c .before .before .before .before .before in
+    omega (arith, spread-row (s .args .target .offset) (c .before .loop .y) (s .args .target .height) (s .args .pitch) (s .pre .1) (c .loop-test .taken))
+
+mul-from-2 : tie.Need-mul-from-2 Inv-loop μ-loop
+mul-from-2 c =
+    let s = c .before .before .before .before .before in
+    omega (arith, spread-row (s .args .target .offset) (c .before .loop .y) (s .args .target .height) (s .args .pitch) (s .pre .1) (c .loop-test .taken))
+
+add-from : tie.Need-add-from Inv-loop μ-loop
+add-from c =
+    let s = c .before .before .before .before .before .before in
+    omega (arith, spread-row (s .args .target .offset) (c .before .before .loop .y) (s .args .target .height) (s .args .pitch) (s .pre .1) (c .before .loop-test .taken))
+
+mul-to : tie.Need-mul-to Inv-loop μ-loop
+mul-to c =
+    let s = c .before .before .before .before .before .before in
+    omega (arith, closed-row (s .args .target .offset) (c .before .before .loop .y) (s .args .target .height) (s .args .pitch) (s .pre .1) (c .before .loop-test .taken))
+
+add-to : tie.Need-add-to Inv-loop μ-loop
+add-to c =
+    let s = c .before .before .before .before .before .before .before in
+    omega (arith, closed-row (s .args .target .offset) (c .before .before .before .loop .y) (s .args .target .height) (s .args .pitch) (s .pre .1) (c .before .before .loop-test .taken))
+
+close-row-requires : tie.Need-close-row-requires Inv-loop μ-loop
+close-row-requires c κs =
+    let s = c .before .before .before .before .before .before .before .before .before .before in
+    let l = c .before .before .before .before .before .before .loop in
+    let i = l .inv .1 in
+    (omega (arith, s .pre .0, i .scratch), omega (arith, i .frame, i .spill, closed-row (s .args .target .offset) (l .y) (s .args .target .height) (s .args .pitch) (s .pre .1) (c .before .before .before .before .before .loop-test .taken)))
+
+add-y : tie.Need-add-y Inv-loop μ-loop
+add-y c = omega arith
+
+loop-less : tie.Need-loop-less Inv-loop μ-loop
+loop-less c = omega arith
+
+loop-again : tie.Need-loop-again Inv-loop μ-loop
+loop-again c =
+    let a = c .before .before .before .before .before .before .before .before .before .before .before .before .before .before .before .before .before .args in
+    let l = c .before .before .before .before .before .before .before .before .before .before .before .before .before .loop in
+    let r = c .before .before .before .before .before .before .close-row in
+    (omega arith, passed-next (λ y. copyRun (a .target .offset + y * (2 * a .pitch)) (a .target .offset + y * a .pitch) (a .pitch)) (l .inv .0) (l .inv .1) (c .before .before .before .before .before .before .before .before .before .before .before .before .loop-test .taken) (r .kept .0) (r .kept .1 .0) (r .kept .1 .1 .0) (r .ensures))
+
+same-length : tie.Need-same-length Inv-loop μ-loop
+same-length c = c .before .loop .inv .1 .frame
+
+same-length-2 : tie.Need-same-length-2 Inv-loop μ-loop
+same-length-2 c = c .before .loop .inv .1 .spill
+
+same-length-3 : tie.Need-same-length-3 Inv-loop μ-loop
+same-length-3 c = c .before .loop .inv .1 .scratch
+
+returns : tie.Need-returns Inv-loop μ-loop
+unfolding closeUp
+returns c = walked-whole (c .before .loop .inv .1 .walk) (omega (arith, c .loop-test .left))
+
+pub close-up-spec : {M : Type 1} → statement M
+close-up-spec =
+    tie.close
+    (tie.spec
+    Inv-loop
+    μ-loop
+    loop-holds
+    mul-from
+    mul-from-2
+    add-from
+    mul-to
+    add-to
+    close-row-requires
+    add-y
+    loop-less
+    loop-again
+    same-length
+    same-length-2
+    same-length-3
+    returns)
