@@ -34,13 +34,11 @@ pub record Within (len scratch base p : ℕ) (t : Region) : Type 0 where
 -- level 1 from a source plane of n bytes, its rows 2 * p apart in frame and spill
 pub record Spread (n sp len spill scratch p : ℕ) (t : Region) : Type 0 where
   pub some : 1 ≤ t .width
-  pub high : 2 ≤ t .height
   pub fits : t .width ≤ p
   pub narrow : 2 * t .width ≤ mostSide
   pub source : Source n 0 sp (2 * t .width) (t .height)
-  pub target : t .offset + t .height * p ≤ len
   pub beyond : t .offset + t .height * (2 * p) ≤ len + spill
-  pub room : 2 * p + 2 ≤ scratch
+  pub room : 2 * p ≤ scratch
 
 -- a pair's row of n bytes at t, from those at l and r, in a frame of len bytes and its spill
 pub record PairRow (len spill scratch t l r n : ℕ) : Type 0 where

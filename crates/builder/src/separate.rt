@@ -1,10 +1,11 @@
 // Level 1 from the source plane, where level 0 isn't stored: open-svpflow's `reduce` with a `Source::Separate`, its rows first 2 * pitch apart in frame and spill.
-// First the vertical rows; then the halved rows; then the rows close up; last the level.
+// First the vertical rows; then the halved rows; then the rows close up; last the level. The source's rows lie sp apart.
 ghost use mathlib.Core.Path.{_≡_};
 ghost use mathlib.Core.List.{_++_};
 ghost use Prim.Native.Nat.{_+_, _*_, _≤_, _<_};
 ghost use lib.ListN.{length};
 ghost use Rattle.filters.specs.Halve.{Apart, headed};
+ghost use Rattle.settings.specs.Limits.{mostSide};
 ghost use Rattle.builder.specs.Canvas.{fetch, put, copyRun};
 ghost use Rattle.builder.specs.Halving.{wholeOf, verticalLine, verticalRows, halveRun, horizontalRows, closeUp, fromSource};
 ghost use Rattle.builder.specs.Room.{Spread};
@@ -16,7 +17,7 @@ use crate::vertical::vertical_line;
 use filters::halving::ReduceFilter;
 use filters::halving::deinterleave;
 
-// The most bytes of a row taken apart: level 1 is at most half as wide as the widest picture.
+// The most bytes of a row taken apart, 2 more than those of the row: twice level 1's width is at most the width of the widest picture.
 const MOST_SPLIT: usize = 16386;
 
 fn spread_vertical_row(
@@ -57,7 +58,7 @@ fn spread_vertical(
     }
 }
 
-// The row at `at`, taken apart, from the frame or, where it leaves it, through scratch.
+// The 2 * w bytes at `at`, taken apart: from the frame or, where they leave it, through scratch.
 fn take_row<'a>(
     split: &mut [u8],
     frame: &'a [u8],
@@ -119,13 +120,14 @@ fn spread_halves(
     pitch: usize,
     target: Region,
 )
-    requires { ⌜ (1 ≤ target .width) × (target .width ≤ pitch) × (2 * pitch ≤ length (now scratch)) × (2 * target .width + 2 ≤ 16386) × (target .offset + target .height * (2 * pitch) ≤ length (now frame) + length (now spill)) ⌝ }
+    requires { ⌜ (1 ≤ target .width) × (target .width ≤ pitch) × (2 * pitch ≤ length (now scratch)) × (2 * target .width ≤ mostSide) × (target .offset + target .height * (2 * pitch) ≤ length (now frame) + length (now spill)) ⌝ }
     ensures { λ r. ⌜ now (frame .exit) ++ now (spill .exit) ≡ horizontalRows filter target (2 * pitch) (now (frame .entry) ++ now (spill .entry)) ⌝ }
 {
     let mut split = [0u8; MOST_SPLIT];
     spread_horizontal(filter, frame, spill, scratch, &mut split, pitch, target);
 }
 
+// A line of n bytes, moved.
 fn close_row(
     frame: &mut [u8],
     spill: &mut [u8],
