@@ -222,9 +222,9 @@ kernel-inside k len scratch i a b d h P =
     (horizontal-inside k len scratch i (planeAt i d) (planeAt i b) (horizontal-fits P d (planeAt i d) b (planeAt i b) (omega arith) refl (omega (arith, h .below)) refl))
 
 -- ---- the stages one after the other
-pub mean-stages : (i : Interp) (a b d A B D : ℕ) → A ≡ planeAt i a → B ≡ planeAt i b → D ≡ planeAt i d → (c c1 c2 c3 c4 c5 : List ℕ) → c1 ≡ pairPlane i A 0 1 c → c2 ≡ pairPlane i B 0 (i .pitch) c1 → c3 ≡ copyRun 0 B (i .width) c2 → c4 ≡ pairPlane i D 0 (i .pitch + 1) c3 → c5 ≡ copyRun 1 D (i .width) c4 → c5 ≡ meanPlanes i a b d c
+pub mean-stages : (i : Interp) (a b d A : ℕ) → A ≡ planeAt i a → (c c1 c2 c3 : List ℕ) → c1 ≡ pairPlane i A 0 1 c → c2 ≡ copyRun 0 (planeAt i b) (i .width) (pairPlane i (planeAt i b) 0 (i .pitch) c1) → c3 ≡ copyRun 1 (planeAt i d) (i .width) (pairPlane i (planeAt i d) 0 (i .pitch + 1) c2) → c3 ≡ meanPlanes i a b d c
 unfolding meanPlanes
-mean-stages i a b d A B D ea eb ed c c1 c2 c3 c4 c5 e1 e2 e3 e4 e5 = rw (e5, e4, e3, e2, e1, ea, eb, ed)
+mean-stages i a b d A ea c c1 c2 c3 e1 e2 e3 = rw (e3, e2, e1, ea)
 
 pub kernel-stages : (k : HalfPel) (i : Interp) (a b d A B D : ℕ) → A ≡ planeAt i a → B ≡ planeAt i b → D ≡ planeAt i d → (c c1 c2 c3 : List ℕ) → c1 ≡ horizontalPlane k i A 0 c → c2 ≡ verticalPlane k i B 0 c1 → c3 ≡ horizontalPlane k i D B c2 → c3 ≡ kernelPlanes k i a b d c
 unfolding kernelPlanes

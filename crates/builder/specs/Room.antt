@@ -75,9 +75,17 @@ pub record Planes (k len scratch : ℕ) (i : Interp) : Type 0 where
   pub inside : k * (i .height * i .pitch) ≤ len
   pub room : 16 * (i .pitch + 16) ≤ scratch
 
+-- plane k, from plane 0 and the places r on, its first row from s: not plane 0 itself, and a row and a byte on at most
+pub record FirstRow (k r s : ℕ) (i : Interp) : Type 0 where
+  pub some : 1 ≤ k
+  pub most : k ≤ 15
+  pub near : r ≤ i .pitch + 1
+  pub first : s ≤ 1
+
 -- the horizontal, vertical and diagonal plane, of which d is the last
 pub record Halves (a b d : ℕ) : Type 0 where
   pub across : a ≤ d
+  pub down : 1 ≤ b
   pub below : b ≤ d
   pub some : 2 ≤ d
   pub most : d ≤ 15

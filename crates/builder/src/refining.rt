@@ -9,7 +9,7 @@ ghost use Rattle.settings.specs.Limits.{mostSide, mostPitch};
 ghost use Rattle.filters.specs.Refine.{halfHorizontal};
 ghost use Rattle.builder.specs.Canvas.{fetch, put, copyRun};
 ghost use Rattle.builder.specs.Refining.{chunked, pairRun, pairPlane, horizontalPlane, verticalRun, verticalPlane, planeAt, meanPlanes, kernelPlanes, halfPlanes, pairs, quarter, foldPairs, refine};
-ghost use Rattle.builder.specs.Room.{PairRow, PairPlane, OnePlane, Planes, Halves, Quarter};
+ghost use Rattle.builder.specs.Room.{PairRow, PairPlane, OnePlane, Planes, FirstRow, Halves, Quarter};
 use crate::canvas::fetch;
 use crate::canvas::put;
 use crate::canvas::span;
@@ -229,6 +229,24 @@ impl Interp {
         k * (self.height * self.pitch)
     }
 
+    // Plane k, of the means of plane 0 and the places r on; then its first row is copied from s.
+    fn pair_under_row(
+        self,
+        frame: &mut [u8],
+        spill: &mut [u8],
+        scratch: &mut [u8],
+        k: usize,
+        r: usize,
+        s: usize,
+    )
+        requires { ⌜ (FirstRow k r s self) × (Planes (k + 1) (length (now frame)) (length (now scratch)) self) × (16 ≤ length (now spill)) ⌝ }
+        ensures { λ q. ⌜ now (frame .exit) ++ now (spill .exit) ≡ copyRun s (planeAt self k) (self .width) (pairPlane self (planeAt self k) 0 r (now (frame .entry) ++ now (spill .entry))) ⌝ }
+    {
+        let t = self.plane(k);
+        self.pair(frame, spill, scratch, t, 0, r);
+        self.copy_first_row(frame, scratch, t, s);
+    }
+
     fn mean_planes(
         self,
         frame: &mut [u8],
@@ -242,13 +260,9 @@ impl Interp {
         ensures { λ r. ⌜ now (frame .exit) ++ now (spill .exit) ≡ meanPlanes self a b d (now (frame .entry) ++ now (spill .entry)) ⌝ }
     {
         let horizontal = self.plane(a);
-        let vertical = self.plane(b);
-        let diagonal = self.plane(d);
         self.pair(frame, spill, scratch, horizontal, 0, 1);
-        self.pair(frame, spill, scratch, vertical, 0, self.pitch);
-        self.copy_first_row(frame, scratch, vertical, 0);
-        self.pair(frame, spill, scratch, diagonal, 0, self.pitch + 1);
-        self.copy_first_row(frame, scratch, diagonal, 1);
+        self.pair_under_row(frame, spill, scratch, b, self.pitch, 0);
+        self.pair_under_row(frame, spill, scratch, d, self.pitch + 1, 1);
     }
 
     fn kernel_planes(

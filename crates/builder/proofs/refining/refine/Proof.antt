@@ -14,7 +14,7 @@ use Rattle.builder.proofs.refining.refine.Statement.{statement}
 use Rattle.builder.proofs.refining.refine.Tie as tie
 
 half-planes-requires : tie.Need-half-planes-requires
-half-planes-requires c κs = let a = c .before .before .before .before .before .before .before .args in (record { across = omega arith; below = omega arith; some = omega arith; most = omega arith }, subst (λ (k : ℕ). Planes (k * k) (length (now (a .frame))) (length (now (a .scratch))) (a .i)) (c .before .before .before .if1 .taken) (c .before .before .before .before .before .before .before .pre .1), c .before .before .before .before .before .before .before .pre .2)
+half-planes-requires c κs = let a = c .before .before .before .before .before .before .before .args in (record { across = omega arith; down = omega arith; below = omega arith; some = omega arith; most = omega arith }, subst (λ (k : ℕ). Planes (k * k) (length (now (a .frame))) (length (now (a .scratch))) (a .i)) (c .before .before .before .if1 .taken) (c .before .before .before .before .before .before .before .pre .1), c .before .before .before .before .before .before .before .pre .2)
 
 same-length : tie.Need-same-length
 same-length c = search needs
@@ -30,7 +30,7 @@ unfolding refine
 returns c = let a = c .before .before .before .before .before .before .before .before .before .before .before .before .before .before .args in c .before .before .before .before .before .before .half-planes .ensures ∙ ap (λ (k : ℕ). refine (a .i) k (a .upscale) (now (a .frame) ++ now (a .spill))) (sym (c .before .before .before .before .before .before .before .before .before .before .if1 .taken))
 
 half-planes-requires-2 : tie.Need-half-planes-requires-2
-half-planes-requires-2 c κs = let a = c .before .before .before .before .before .before .before .args in (record { across = omega arith; below = omega arith; some = omega arith; most = omega arith }, planes-fewer (subst (λ (k : ℕ). Planes (k * k) (length (now (a .frame))) (length (now (a .scratch))) (a .i)) (⊎-elim (λ e. absurd (c .before .before .before .if1 .left e)) (λ e. e) (c .before .before .before .before .before .before .before .pre .0)) (c .before .before .before .before .before .before .before .pre .1)) (omega arith), c .before .before .before .before .before .before .before .pre .2)
+half-planes-requires-2 c κs = let a = c .before .before .before .before .before .before .before .args in (record { across = omega arith; down = omega arith; below = omega arith; some = omega arith; most = omega arith }, planes-fewer (subst (λ (k : ℕ). Planes (k * k) (length (now (a .frame))) (length (now (a .scratch))) (a .i)) (⊎-elim (λ e. absurd (c .before .before .before .if1 .left e)) (λ e. e) (c .before .before .before .before .before .before .before .pre .0)) (c .before .before .before .before .before .before .before .pre .1)) (omega arith), c .before .before .before .before .before .before .before .pre .2)
 
 quarters-requires : tie.Need-quarters-requires
 quarters-requires c κs = let a = c .before .before .before .before .before .before .before .before .before .before .before .before .before .before .before .before .before .args in (planes-kept (subst (λ (k : ℕ). Planes (k * k) (length (now (a .frame))) (length (now (a .scratch))) (a .i)) (⊎-elim (λ e. absurd (c .before .before .before .before .before .before .before .before .before .before .before .before .before .if1 .left e)) (λ e. e) (c .before .before .before .before .before .before .before .before .before .before .before .before .before .before .before .before .before .pre .0)) (c .before .before .before .before .before .before .before .before .before .before .before .before .before .before .before .before .before .pre .1)) (c .before .before .before .before .before .before .before .before .before .half-planes2 .kept .1 .0) (c .before .before .before .before .before .before .before .before .before .half-planes2 .kept .1 .1 .1 .0), omega (arith, c .before .before .before .before .before .before .before .before .before .before .before .before .before .before .before .before .before .pre .2, c .before .before .before .before .before .before .before .before .before .half-planes2 .kept .1 .1 .0))
