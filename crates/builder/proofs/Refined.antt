@@ -1,6 +1,7 @@
--- Laws of refining: a row stored in the list that it is read of; then a plane of rows; then the planes one after the other. Assumes nothing.
+-- Laws of refining: a row stored in the list that it is read of; a row of a pair, and the rows around one; planes that lie in a frame; stages that stay inside it; the stages one after the other; last the table of pairs. Assumes nothing.
 use mathlib.Core.Bool.{Bool, true, false, _&&_}
-use mathlib.Core.Path.{_≡_, refl, sym, ap, _∙_}
+use mathlib.Core.Logic.{_⊎_, ⊎-elim}
+use mathlib.Core.Path.{_≡_, refl, sym, ap, _∙_, subst}
 use mathlib.Core.List.{List, [], _∷_, _++_, append-assoc}
 use Prim.Native.Nat.{ℕ, zero, suc, _+_, _*_, _-_, _≤_, _<_}
 use native.Mathlib.Nat.{mul-le-mul-right, add-mul, le-of-suc-le-suc, not-suc-le-zero}
@@ -106,13 +107,12 @@ pair-apart c x l r n room =
     ∙ ap (λ (y : List ℕ). meansOf n y (fetch x2 n n)) first
     ∙ ap (meansOf n a) second
 
--- ---- rows of a plane
--- the rows around row y
+-- ---- the rows around row y
 pub vertical-rows : (k : HalfPel) (i : Interp) (s y n a2 a1 : ℕ) (F m2 m1 c0 p1 p2 p3 : List ℕ) → n ≡ i .width → a2 ≡ y - 2 → a1 ≡ y - 1 → m2 ≡ fetch F (s + a2 * i .pitch) (i .width) → m1 ≡ fetch F (s + a1 * i .pitch) (i .width) → c0 ≡ fetch F (s + y * i .pitch) (i .width) → p1 ≡ fetch F (s + (y + 1) * i .pitch) (i .width) → p2 ≡ fetch F (s + (y + 2) * i .pitch) (i .width) → p3 ≡ fetch F (s + (y + 3) * i .pitch) (i .width) → halfVertical k y (i .height) n m2 m1 c0 p1 p2 p3 ≡ verticalRun k i s y F
 unfolding verticalRun
 vertical-rows k i s y n a2 a1 F m2 m1 c0 p1 p2 p3 e b2 b1 f2 f1 g0 g1 g2 g3 = rw (e, f2, f1, g0, g1, g2, g3, b2, b1)
 
--- a canvas whose frame and spill kept their lengths
+-- ---- a canvas whose frame and spill kept their lengths
 pub both-lengths : (F S G T : List ℕ) → length F ≡ length G → length S ≡ length T → length (F ++ S) ≡ length (G ++ T)
 both-lengths F S G T e f = length-append F S ∙ omega (arith, length-append G T)
 
@@ -121,8 +121,8 @@ module _ {k len scratch : ℕ} {i : Interp} (P : Planes k len scratch i) where
   pub plane-fits : (j t : ℕ) → j < k → t ≡ planeAt i j → t + i .height * i .pitch ≤ len
   plane-fits j t lt e = omega (arith, row-in j k (i .height * i .pitch) lt, P .inside, e)
 
-  -- a plane is longer than a row, and one byte
-  plane-long : i .pitch + 3 ≤ i .height * i .pitch + 1
+  -- a plane is longer than a row and a byte
+  plane-long : i .pitch + 2 ≤ i .height * i .pitch
   plane-long = omega (arith, mul-le-mul-right (i .pitch) (P .high), P .wide, P .fits)
 
   pub first-row-fits : (j t s : ℕ) → j < k → t ≡ planeAt i j → s ≤ 1 → (s + i .width ≤ len) × (t + i .width ≤ len) × (i .width ≤ scratch)
@@ -181,6 +181,13 @@ planes-fewer {j} {k} {len} {scratch} {i} P few =
       inside = omega (arith, P .inside, mul-le-mul-right (i .height * i .pitch) few);
       room = P .room;
     }
+
+-- at pel 2 or 4
+pub pel-four : {pel : ℕ} → (pel ≡ 2) ⊎ (pel ≡ 4) → (pel ≡ 2 → ⊥) → pel ≡ 4
+pel-four known not-two = ⊎-elim (λ e. absurd (not-two e)) (λ e. e) known
+
+pub planes-at : {pel m len scratch : ℕ} {i : Interp} → pel ≡ m → Planes (pel * pel) len scratch i → Planes (m * m) len scratch i
+planes-at {pel} {m} {len} {scratch} {i} e P = subst (λ (k : ℕ). Planes (k * k) len scratch i) e P
 
 -- ---- stages that stay inside a frame
 pub copy-inside : (len s t n : ℕ) → s + n ≤ len → t + n ≤ len → Inside len (copyRun s t n)

@@ -43,16 +43,22 @@ same-length-3 c = search needs
 returns : tie.Need-returns
 unfolding pairRun
 returns c =
-    let a = c .before .before .before .before .before .before .before .before .before .before .before .before .before .before .before .before .before .before .before .before .before .before .before .before .before .before .before .before .args in
+    let at-store = c .before .before .before .before in
+    let at-span = at-store .before in
+    let at-pair-inside = at-span .before .before .before .before .before .before in
+    let at-fetch-into2 = at-pair-inside .before .before .before .before in
+    let at-fetch-into = at-fetch-into2 .before .before .before .before .before .before in
+    let entered = at-fetch-into .before .before .before .before .before .before .before in
+    let a = entered .args in
     let C = now (a .frame) ++ now (a .spill) in
     let n = a .n in
     let row =
-    c .before .before .before .before .before .span .ensures .0
+    at-span .span .ensures .0
     ∙ ap (λ (x : List ℕ). fetch x (2 * n) n)
-    (c .before .before .before .before .before .before .before .before .before .before .before .pair-inside .ensures
-    ∙ ap (pairRun (2 * n) 0 n n) (c .before .before .before .before .before .before .before .before .before .before .before .before .before .before .before .fetch-into2 .ensures ∙ ap (λ (x : List ℕ). put x n (fetch C (a .r) n)) (c .before .before .before .before .before .before .before .before .before .before .before .before .before .before .before .before .before .before .before .before .before .fetch-into .ensures)))
-    ∙ pair-apart C (now (a .scratch)) (a .l) (a .r) n (c .before .before .before .before .before .before .before .before .before .before .before .before .before .before .before .before .before .before .before .before .before .before .before .before .before .before .before .before .pre .room) in
-    c .before .before .before .before .store .ensures ∙ ap (put C (a .t)) row
+    (at-pair-inside .pair-inside .ensures
+    ∙ ap (pairRun (2 * n) 0 n n) (at-fetch-into2 .fetch-into2 .ensures ∙ ap (λ (x : List ℕ). put x n (fetch C (a .r) n)) (at-fetch-into .fetch-into .ensures)))
+    ∙ pair-apart C (now (a .scratch)) (a .l) (a .r) n (entered .pre .room) in
+    at-store .store .ensures ∙ ap (put C (a .t)) row
 
 pub pair-apart-spec : {M : Type 1} → statement M
 pair-apart-spec =

@@ -26,9 +26,14 @@ same-length c = search needs
 
 returns : tie.Need-returns
 returns c =
-    let a = c .before .before .before .before .before .before .before .before .before .before .args in
-    ap (λ (x : List ℕ). x ++ now (a .spill)) (c .before .before .pair-inside .ensures)
-    ∙ pair-left (now (a .frame)) (now (a .spill)) (a .t) (a .l) (a .r) (a .n) (omega (arith, c .before .before .before .before .before .before .if1 .taken, c .before .before .before .before .if3 .taken)) (omega (arith, c .before .before .before .before .before .if2 .taken, c .before .before .before .before .if3 .taken)) (c .before .before .before .before .if3 .taken)
+    let at-pair-inside = c .before .before in
+    let at-if3 = at-pair-inside .before .before in
+    let at-if2 = at-if3 .before in
+    let at-if1 = at-if2 .before in
+    let entered = at-if1 .before .before .before .before in
+    let a = entered .args in
+    ap (λ (x : List ℕ). x ++ now (a .spill)) (at-pair-inside .pair-inside .ensures)
+    ∙ pair-left (now (a .frame)) (now (a .spill)) (a .t) (a .l) (a .r) (a .n) (omega (arith, at-if1 .if1 .taken, at-if3 .if3 .taken)) (omega (arith, at-if2 .if2 .taken, at-if3 .if3 .taken)) (at-if3 .if3 .taken)
 
 pair-apart-requires : tie.Need-pair-apart-requires
 pair-apart-requires c κs = search needs

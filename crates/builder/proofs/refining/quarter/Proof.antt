@@ -23,19 +23,36 @@ plane-requires-2 : tie.Need-plane-requires-2
 plane-requires-2 c κs = search needs
 
 add-left : tie.Need-add-left
-add-left c = let a = c .before .before .before .before .before .before .before .before .before .before .args in omega (arith, quarter-fits 16 (planeAt (a .i) (a .q .target)) _ (planeAt (a .i) (a .q .right)) (c .before .before .before .before .before .before .before .before .before .before .pre .1) (c .before .before .before .before .before .before .before .before .before .before .pre .0) (omega arith) refl (c .before .plane2 .ensures) refl .left)
+add-left c =
+    let at-plane2 = c .before in
+    let entered = at-plane2 .before .before .before .before .before .before .before .before .before in
+    let a = entered .args in
+    omega (arith, quarter-fits 16 (planeAt (a .i) (a .q .target)) _ (planeAt (a .i) (a .q .right)) (entered .pre .1) (entered .pre .0) (omega arith) refl (at-plane2 .plane2 .ensures) refl .left)
 
 mul-left : tie.Need-mul-left
-mul-left c = let a = c .before .before .before .before .before .before .before .before .before .before .before .before .args in omega (arith, quarter-fits 16 (planeAt (a .i) (a .q .target)) _ (planeAt (a .i) (a .q .right)) (c .before .before .before .before .before .before .before .before .before .before .before .before .pre .1) (c .before .before .before .before .before .before .before .before .before .before .before .before .pre .0) (omega arith) refl (c .before .before .before .plane2 .ensures) refl .left)
+mul-left c =
+    let at-plane2 = c .before .before .before in
+    let entered = at-plane2 .before .before .before .before .before .before .before .before .before in
+    let a = entered .args in
+    omega (arith, quarter-fits 16 (planeAt (a .i) (a .q .target)) _ (planeAt (a .i) (a .q .right)) (entered .pre .1) (entered .pre .0) (omega arith) refl (at-plane2 .plane2 .ensures) refl .left)
 
 add-left-2 : tie.Need-add-left-2
-add-left-2 c = let a = c .before .before .before .before .before .before .before .before .before .before .before .before .args in omega (arith, quarter-fits 16 (planeAt (a .i) (a .q .target)) _ (planeAt (a .i) (a .q .right)) (c .before .before .before .before .before .before .before .before .before .before .before .before .pre .1) (c .before .before .before .before .before .before .before .before .before .before .before .before .pre .0) (omega arith) refl (c .before .before .before .plane2 .ensures) refl .left)
+add-left-2 c =
+    let at-plane2 = c .before .before .before in
+    let entered = at-plane2 .before .before .before .before .before .before .before .before .before in
+    let a = entered .args in
+    omega (arith, quarter-fits 16 (planeAt (a .i) (a .q .target)) _ (planeAt (a .i) (a .q .right)) (entered .pre .1) (entered .pre .0) (omega arith) refl (at-plane2 .plane2 .ensures) refl .left)
 
 plane-requires-3 : tie.Need-plane-requires-3
 plane-requires-3 c κs = search needs
 
 pair-requires : tie.Need-pair-requires
-pair-requires c κs = quarter-fits _ _ _ _ (c .before .before .before .before .before .before .before .before .before .before .before .before .before .before .before .before .pre .1) (c .before .before .before .before .before .before .before .before .before .before .before .before .before .before .before .before .pre .0) (c .before .before .before .before .before .before .before .before .before .before .before .before .before .before .before .before .pre .2) (c .before .before .before .before .before .before .before .before .plane .ensures) (c .before .before .before .before .before .before .before .plane2 .ensures) (c .before .before .before .plane3 .ensures)
+pair-requires c κs =
+    let at-plane3 = c .before .before .before in
+    let at-plane2 = at-plane3 .before .before .before .before in
+    let at-plane = at-plane2 .before in
+    let entered = at-plane .before .before .before .before .before .before .before .before in
+    quarter-fits _ _ _ _ (entered .pre .1) (entered .pre .0) (entered .pre .2) (at-plane .plane .ensures) (at-plane2 .plane2 .ensures) (at-plane3 .plane3 .ensures)
 
 same-length : tie.Need-same-length
 same-length c = search needs
@@ -48,8 +65,13 @@ same-length-3 c = search needs
 
 returns : tie.Need-returns
 returns c =
-    let a = c .before .before .before .before .before .before .before .before .before .before .before .before .before .before .before .before .before .before .before .before .before .before .before .args in
-    c .before .before .before .before .before .before .pair .ensures ∙ quarter-made (a .i) (a .q) _ _ _ (now (a .frame) ++ now (a .spill)) (c .before .before .before .before .before .before .before .before .before .before .before .before .before .before .before .plane .ensures) (c .before .before .before .before .before .before .before .before .before .before .before .before .before .before .plane2 .ensures) (c .before .before .before .before .before .before .before .before .before .before .plane3 .ensures)
+    let at-pair = c .before .before .before .before .before .before in
+    let at-plane3 = at-pair .before .before .before .before in
+    let at-plane2 = at-plane3 .before .before .before .before in
+    let at-plane = at-plane2 .before in
+    let entered = at-plane .before .before .before .before .before .before .before .before in
+    let a = entered .args in
+    at-pair .pair .ensures ∙ quarter-made (a .i) (a .q) _ _ _ (now (a .frame) ++ now (a .spill)) (at-plane .plane .ensures) (at-plane2 .plane2 .ensures) (at-plane3 .plane3 .ensures)
 
 pub quarter-spec : {M : Type 1} → statement M
 quarter-spec =

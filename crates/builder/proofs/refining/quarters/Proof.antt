@@ -27,7 +27,12 @@ array-copy-out-q : tie.Need-array-copy-out-q Inv-loop μ-loop
 array-copy-out-q c = omega arith
 
 quarter-requires : tie.Need-quarter-requires Inv-loop μ-loop
-quarter-requires c κs = let v = c .before .before .before .before .before .loop .inv in (table-row (c .before .before .before .before .before .loop .k) (c .before .before .before .before .loop-test .taken), planes-kept (c .before .before .before .before .before .before .before .before .before .pre .0) (v .1) (v .3), omega (arith, c .before .before .before .before .before .before .before .before .before .pre .1, v .2))
+quarter-requires c κs =
+    let at-loop-test = c .before .before .before .before in
+    let at-loop = at-loop-test .before in
+    let entered = at-loop .before .before .before .before in
+    let v = at-loop .loop .inv in
+    (table-row (at-loop .loop .k) (at-loop-test .loop-test .taken), planes-kept (entered .pre .0) (v .1) (v .3), omega (arith, entered .pre .1, v .2))
 
 add-k : tie.Need-add-k Inv-loop μ-loop
 add-k c = omega arith
@@ -37,10 +42,13 @@ loop-less c = omega arith
 
 loop-again : tie.Need-loop-again Inv-loop μ-loop
 loop-again c =
-    let q = c .before .before .before .before .before .before .quarter in
-    let l = c .before .before .before .before .before .before .before .before .before .before .before .before .loop in
+    let at-quarter = c .before .before .before .before .before .before in
+    let at-loop-test = at-quarter .before .before .before .before .before in
+    let at-loop = at-loop-test .before in
+    let q = at-quarter .quarter in
+    let l = at-loop .loop in
     let v = l .inv in
-    (walked-more (v .0) (c .before .before .before .before .before .before .before .before .before .before .before .loop-test .taken) (both-lengths (q .last .0) (q .last .1 .0) (l .frame) (l .spill) (q .kept .0) (q .kept .1 .0)) (q .ensures), q .kept .0 ∙ v .1, q .kept .1 .0 ∙ v .2, q .kept .1 .1 .0 ∙ v .3)
+    (walked-more (v .0) (at-loop-test .loop-test .taken) (both-lengths (q .last .0) (q .last .1 .0) (l .frame) (l .spill) (q .kept .0) (q .kept .1 .0)) (q .ensures), q .kept .0 ∙ v .1, q .kept .1 .0 ∙ v .2, q .kept .1 .1 .0 ∙ v .3)
 
 same-length : tie.Need-same-length Inv-loop μ-loop
 same-length c = c .before .loop .inv .1

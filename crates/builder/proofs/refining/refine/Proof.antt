@@ -1,20 +1,20 @@
 -- `refine` meets its contract. Assumes nothing.
-use mathlib.Core.Path.{sym, ap, _∙_, subst}
+use mathlib.Core.Path.{sym, ap, _∙_}
 use mathlib.Core.List.{_++_}
-use mathlib.Core.Logic.{⊎-elim}
-use Prim.Native.Nat.{ℕ, _+_, _*_, _-_}
+use Prim.Native.Nat.{ℕ, _+_, _-_}
 use native.Mathlib.Omega.{arith}
-use lib.ListN.{length}
 use denote.Ref.{now}
 use borrow.Author.Needs.{needs}
 use Rattle.builder.specs.Refining.{pairs, quarter, foldPairs, refine}
-use Rattle.builder.specs.Room.{Planes}
-use Rattle.builder.proofs.Refined.{planes-kept, planes-fewer}
+use Rattle.builder.proofs.Refined.{planes-kept, planes-fewer, planes-at, pel-four}
 use Rattle.builder.proofs.refining.refine.Statement.{statement}
 use Rattle.builder.proofs.refining.refine.Tie as tie
 
 half-planes-requires : tie.Need-half-planes-requires
-half-planes-requires c κs = let a = c .before .before .before .before .before .before .before .args in (record { across = omega arith; down = omega arith; below = omega arith; some = omega arith; most = omega arith }, subst (λ (k : ℕ). Planes (k * k) (length (now (a .frame))) (length (now (a .scratch))) (a .i)) (c .before .before .before .if1 .taken) (c .before .before .before .before .before .before .before .pre .1), c .before .before .before .before .before .before .before .pre .2)
+half-planes-requires c κs =
+    let at-if1 = c .before .before .before in
+    let entered = at-if1 .before .before .before .before in
+    (record { across = omega arith; down = omega arith; below = omega arith; some = omega arith; most = omega arith }, planes-at (at-if1 .if1 .taken) (entered .pre .1), entered .pre .2)
 
 same-length : tie.Need-same-length
 same-length c = search needs
@@ -27,13 +27,26 @@ same-length-3 c = search needs
 
 returns : tie.Need-returns
 unfolding refine
-returns c = let a = c .before .before .before .before .before .before .before .before .before .before .before .before .before .before .args in c .before .before .before .before .before .before .half-planes .ensures ∙ ap (λ (k : ℕ). refine (a .i) k (a .upscale) (now (a .frame) ++ now (a .spill))) (sym (c .before .before .before .before .before .before .before .before .before .before .if1 .taken))
+returns c =
+    let at-half-planes = c .before .before .before .before .before .before in
+    let at-if1 = at-half-planes .before .before .before .before in
+    let entered = at-if1 .before .before .before .before in
+    let a = entered .args in
+    at-half-planes .half-planes .ensures ∙ ap (λ (k : ℕ). refine (a .i) k (a .upscale) (now (a .frame) ++ now (a .spill))) (sym (at-if1 .if1 .taken))
 
 half-planes-requires-2 : tie.Need-half-planes-requires-2
-half-planes-requires-2 c κs = let a = c .before .before .before .before .before .before .before .args in (record { across = omega arith; down = omega arith; below = omega arith; some = omega arith; most = omega arith }, planes-fewer (subst (λ (k : ℕ). Planes (k * k) (length (now (a .frame))) (length (now (a .scratch))) (a .i)) (⊎-elim (λ e. absurd (c .before .before .before .if1 .left e)) (λ e. e) (c .before .before .before .before .before .before .before .pre .0)) (c .before .before .before .before .before .before .before .pre .1)) (omega arith), c .before .before .before .before .before .before .before .pre .2)
+half-planes-requires-2 c κs =
+    let at-if1 = c .before .before .before in
+    let entered = at-if1 .before .before .before .before in
+    (record { across = omega arith; down = omega arith; below = omega arith; some = omega arith; most = omega arith }, planes-fewer (planes-at (pel-four (entered .pre .0) (at-if1 .if1 .left)) (entered .pre .1)) (omega arith), entered .pre .2)
 
 quarters-requires : tie.Need-quarters-requires
-quarters-requires c κs = let a = c .before .before .before .before .before .before .before .before .before .before .before .before .before .before .before .before .before .args in (planes-kept (subst (λ (k : ℕ). Planes (k * k) (length (now (a .frame))) (length (now (a .scratch))) (a .i)) (⊎-elim (λ e. absurd (c .before .before .before .before .before .before .before .before .before .before .before .before .before .if1 .left e)) (λ e. e) (c .before .before .before .before .before .before .before .before .before .before .before .before .before .before .before .before .before .pre .0)) (c .before .before .before .before .before .before .before .before .before .before .before .before .before .before .before .before .before .pre .1)) (c .before .before .before .before .before .before .before .before .before .half-planes2 .kept .1 .0) (c .before .before .before .before .before .before .before .before .before .half-planes2 .kept .1 .1 .1 .0), omega (arith, c .before .before .before .before .before .before .before .before .before .before .before .before .before .before .before .before .before .pre .2, c .before .before .before .before .before .before .before .before .before .half-planes2 .kept .1 .1 .0))
+quarters-requires c κs =
+    let at-half-planes2 = c .before .before .before .before .before .before .before .before .before in
+    let at-if1 = at-half-planes2 .before .before .before .before in
+    let entered = at-if1 .before .before .before .before in
+    let k = at-half-planes2 .half-planes2 .kept .1 in
+    (planes-kept (planes-at (pel-four (entered .pre .0) (at-if1 .if1 .left)) (entered .pre .1)) (k .0) (k .1 .1 .0), omega (arith, entered .pre .2, k .1 .0))
 
 same-length-4 : tie.Need-same-length-4
 same-length-4 c = search needs
@@ -47,10 +60,14 @@ same-length-6 c = search needs
 returns-2 : tie.Need-returns-2
 unfolding refine
 returns-2 c =
-    let a = c .before .before .before .before .before .before .before .before .before .before .before .before .before .before .before .before .before .before .before .before .before .before .before .before .args in
-    c .before .before .before .before .before .before .quarters .ensures
-    ∙ ap (foldPairs (quarter (a .i)) pairs) (c .before .before .before .before .before .before .before .before .before .before .before .before .before .before .before .before .half-planes2 .ensures)
-    ∙ ap (λ (k : ℕ). refine (a .i) k (a .upscale) (now (a .frame) ++ now (a .spill))) (sym (⊎-elim (λ e. absurd (c .before .before .before .before .before .before .before .before .before .before .before .before .before .before .before .before .before .before .before .before .if1 .left e)) (λ e. e) (c .before .before .before .before .before .before .before .before .before .before .before .before .before .before .before .before .before .before .before .before .before .before .before .before .pre .0)))
+    let at-quarters = c .before .before .before .before .before .before in
+    let at-half-planes2 = at-quarters .before .before .before .before .before .before .before .before .before .before in
+    let at-if1 = at-half-planes2 .before .before .before .before in
+    let entered = at-if1 .before .before .before .before in
+    let a = entered .args in
+    at-quarters .quarters .ensures
+    ∙ ap (foldPairs (quarter (a .i)) pairs) (at-half-planes2 .half-planes2 .ensures)
+    ∙ ap (λ (k : ℕ). refine (a .i) k (a .upscale) (now (a .frame) ++ now (a .spill))) (sym (pel-four (entered .pre .0) (at-if1 .if1 .left)))
 
 pub refine-spec : {M : Type 1} → statement M
 refine-spec =

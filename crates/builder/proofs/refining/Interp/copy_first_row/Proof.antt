@@ -24,7 +24,11 @@ copy-row-requires : tie.Need-copy-row-requires
 copy-row-requires c κs = let a = c .before .before .before .before .before .before .args in omega (arith, length-take-le (a .self .width) (now (a .scratch)) (omega (arith, c .before .before .before .before .before .before .pre)), c .span .ensures .1)
 
 put-requires : tie.Need-put-requires
-put-requires c κs = let a = c .before .before .before .before .before .before .before .before .before .before .before .args in omega (arith, c .before .before .before .before .copy-row .kept .0, length-take-le (a .self .width) (now (a .scratch)) (omega (arith, c .before .before .before .before .before .before .before .before .before .before .before .pre)), c .before .before .before .before .before .before .before .before .before .before .before .pre)
+put-requires c κs =
+    let at-copy-row = c .before .before .before .before in
+    let entered = at-copy-row .before .before .before .before .before .before .before in
+    let a = entered .args in
+    omega (arith, at-copy-row .copy-row .kept .0, length-take-le (a .self .width) (now (a .scratch)) (omega (arith, entered .pre)), entered .pre)
 
 same-length : tie.Need-same-length
 same-length c = search needs
@@ -35,15 +39,19 @@ same-length-2 c = search needs
 returns : tie.Need-returns
 unfolding copyRun
 returns c =
-    let a = c .before .before .before .before .before .before .before .before .before .before .before .before .before .before .before .before .args in
+    let at-put = c .before .before .before .before in
+    let at-copy-row = at-put .before .before .before .before .before in
+    let at-span = at-copy-row .before in
+    let entered = at-span .before .before .before .before .before .before in
+    let a = entered .args in
     let F = now (a .frame) in
     let w = a .self .width in
     let row =
-    c .before .before .before .before .before .before .before .before .before .copy-row .ensures
-    ∙ ap (λ (k : ℕ). take k (now (c .before .before .before .before .before .before .before .before .before .before .span .result))) (length-take-le w (now (a .scratch)) (omega (arith, c .before .before .before .before .before .before .before .before .before .before .before .before .before .before .before .before .pre)))
-    ∙ ap (take w) (c .before .before .before .before .before .before .before .before .before .before .span .ensures .0)
+    at-copy-row .copy-row .ensures
+    ∙ ap (λ (k : ℕ). take k (now (at-span .span .result))) (length-take-le w (now (a .scratch)) (omega (arith, entered .pre)))
+    ∙ ap (take w) (at-span .span .ensures .0)
     ∙ take-all w (fetch F (a .s) w) (omega (arith, fetch-length F (a .s) w)) in
-    c .before .before .before .before .put .ensures ∙ ap (put F (a .t)) row
+    at-put .put .ensures ∙ ap (put F (a .t)) row
 
 pub copy-first-row-spec : {M : Type 1} → statement M
 copy-first-row-spec =

@@ -35,8 +35,11 @@ same-length-3 c = search needs
 returns : tie.Need-returns
 unfolding halfPlanes
 returns c =
-    let a = c .before .before .before .before .before .before .before .before .before .before .before .before .before .before .before .args in
-    c .before .before .before .before .before .before .mean-planes .ensures ∙ ap (λ (u : Upscale). halfPlanes u (a .self) (a .a) (a .b) (a .d) (now (a .frame) ++ now (a .spill))) (sym (c .before .before .before .before .before .before .before .before .before .before .enum-told .given .1))
+    let at-mean-planes = c .before .before .before .before .before .before in
+    let at-enum-told = at-mean-planes .before .before .before .before in
+    let entered = at-enum-told .before .before .before .before .before in
+    let a = entered .args in
+    at-mean-planes .mean-planes .ensures ∙ ap (λ (u : Upscale). halfPlanes u (a .self) (a .a) (a .b) (a .d) (now (a .frame) ++ now (a .spill))) (sym (at-enum-told .enum-told .given .1))
 
 same-length-4 : tie.Need-same-length-4
 same-length-4 c = search needs
@@ -47,12 +50,15 @@ same-length-5 c = search needs
 returns-2 : tie.Need-returns-2
 unfolding halfPlanes
 returns-2 c =
-    let a = c .before .before .before .before .before .before .before .before .before .before .before .before .before .args in
+    let at-kernel-planes = c .before .before .before .before in
+    let at-upscale = at-kernel-planes .before .before .before .before in
+    let entered = at-upscale .before .before .before .before .before in
+    let a = entered .args in
     let F = now (a .frame) in
     let S = now (a .spill) in
-    let told = c .before .before .before .before .before .before .before .before .upscale .given in
-    ap (λ (x : List ℕ). x ++ S) (c .before .before .before .before .kernel-planes .ensures)
-    ∙ kernel-inside (told .0 .0) (length F) (length (now (a .scratch))) (a .self) (a .a) (a .b) (a .d) (c .before .before .before .before .before .before .before .before .before .before .before .before .before .pre .0) (c .before .before .before .before .before .before .before .before .before .before .before .before .before .pre .1) .aside F S refl
+    let told = at-upscale .upscale .given in
+    ap (λ (x : List ℕ). x ++ S) (at-kernel-planes .kernel-planes .ensures)
+    ∙ kernel-inside (told .0 .0) (length F) (length (now (a .scratch))) (a .self) (a .a) (a .b) (a .d) (entered .pre .0) (entered .pre .1) .aside F S refl
     ∙ ap (λ (u : Upscale). halfPlanes u (a .self) (a .a) (a .b) (a .d) (F ++ S)) (sym (told .1))
 
 pub half-planes-spec : {M : Type 1} → statement M

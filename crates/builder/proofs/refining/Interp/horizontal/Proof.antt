@@ -23,18 +23,31 @@ mul-row : tie.Need-mul-row Inv-loop μ-loop
 mul-row c = let i = c .before .before .before .before .before .args .self in omega (arith, row-in (c .before .before .loop .y) (i .height) (i .pitch) (c .before .loop-test .taken), c .before .before .before .before .before .pre .source)
 
 add-horizontal-row : tie.Need-add-horizontal-row Inv-loop μ-loop
-add-horizontal-row c = let i = c .before .before .before .before .before .before .before .args .self in omega (arith, row-in (c .before .before .before .before .loop .y) (i .height) (i .pitch) (c .before .before .before .loop-test .taken), c .before .before .before .before .before .before .before .pre .target)
+add-horizontal-row c =
+    let at-loop-test = c .before .before .before in
+    let at-loop = at-loop-test .before in
+    let entered = at-loop .before .before .before in
+    let i = entered .args .self in
+    omega (arith, row-in (at-loop .loop .y) (i .height) (i .pitch) (at-loop-test .loop-test .taken), entered .pre .target)
 
 add-horizontal-row-2 : tie.Need-add-horizontal-row-2 Inv-loop μ-loop
-add-horizontal-row-2 c = let i = c .before .before .before .before .before .before .before .args .self in omega (arith, row-in (c .before .before .before .before .loop .y) (i .height) (i .pitch) (c .before .before .before .loop-test .taken), c .before .before .before .before .before .before .before .pre .source)
+add-horizontal-row-2 c =
+    let at-loop-test = c .before .before .before in
+    let at-loop = at-loop-test .before in
+    let entered = at-loop .before .before .before in
+    let i = entered .args .self in
+    omega (arith, row-in (at-loop .loop .y) (i .height) (i .pitch) (at-loop-test .loop-test .taken), entered .pre .source)
 
 horizontal-row-requires : tie.Need-horizontal-row-requires Inv-loop μ-loop
 horizontal-row-requires c κs =
-    let i = c .before .before .before .before .before .before .before .args .self in
-    let r = row-in (c .before .before .before .before .loop .y) (i .height) (i .pitch) (c .before .before .before .loop-test .taken) in
-    let p = c .before .before .before .before .before .before .before .pre in
-    let e = c .before .before .before .before .loop .inv .0 .same in
-    (omega (arith, r, p .source, p .fits, e), omega (arith, r, p .target, p .fits, e), omega (arith, p .room, c .before .before .before .before .loop .inv .1))
+    let at-loop-test = c .before .before .before in
+    let at-loop = at-loop-test .before in
+    let entered = at-loop .before .before .before in
+    let i = entered .args .self in
+    let r = row-in (at-loop .loop .y) (i .height) (i .pitch) (at-loop-test .loop-test .taken) in
+    let p = entered .pre in
+    let e = at-loop .loop .inv .0 .same in
+    (omega (arith, r, p .source, p .fits, e), omega (arith, r, p .target, p .fits, e), omega (arith, p .room, at-loop .loop .inv .1))
 
 add-y : tie.Need-add-y Inv-loop μ-loop
 add-y c = omega arith
@@ -43,7 +56,11 @@ loop-less : tie.Need-loop-less Inv-loop μ-loop
 loop-less c = omega arith
 
 loop-again : tie.Need-loop-again Inv-loop μ-loop
-loop-again c = (walked-more (c .before .before .before .before .before .before .before .before .before .loop .inv .0) (c .before .before .before .before .before .before .before .before .loop-test .taken) (c .before .before .before .before .horizontal-row .kept .1 .1 .0) (c .before .before .before .before .horizontal-row .ensures), c .before .before .before .before .horizontal-row .kept .1 .1 .1 .0 ∙ c .before .before .before .before .before .before .before .before .before .loop .inv .1)
+loop-again c =
+    let at-horizontal-row = c .before .before .before .before in
+    let at-loop-test = at-horizontal-row .before .before .before .before in
+    let at-loop = at-loop-test .before in
+    (walked-more (at-loop .loop .inv .0) (at-loop-test .loop-test .taken) (at-horizontal-row .horizontal-row .kept .1 .1 .0) (at-horizontal-row .horizontal-row .ensures), at-horizontal-row .horizontal-row .kept .1 .1 .1 .0 ∙ at-loop .loop .inv .1)
 
 same-length : tie.Need-same-length Inv-loop μ-loop
 same-length c = c .before .loop .inv .0 .same

@@ -23,7 +23,11 @@ horizontal-requires : tie.Need-horizontal-requires
 horizontal-requires c κs = let a = c .before .before .before .before .before .before .args in omega (arith, length-take-le (a .self .width) (now (a .scratch)) (omega (arith, c .before .before .before .before .before .before .pre)), c .span .ensures .1)
 
 put-requires : tie.Need-put-requires
-put-requires c κs = let a = c .before .before .before .before .before .before .before .before .before .before .before .args in omega (arith, c .before .before .before .before .horizontal .kept .1 .0, length-take-le (a .self .width) (now (a .scratch)) (omega (arith, c .before .before .before .before .before .before .before .before .before .before .before .pre)), c .before .before .before .before .before .before .before .before .before .before .before .pre)
+put-requires c κs =
+    let at-horizontal = c .before .before .before .before in
+    let entered = at-horizontal .before .before .before .before .before .before .before in
+    let a = entered .args in
+    omega (arith, at-horizontal .horizontal .kept .1 .0, length-take-le (a .self .width) (now (a .scratch)) (omega (arith, entered .pre)), entered .pre)
 
 same-length : tie.Need-same-length
 same-length c = search needs
@@ -33,13 +37,17 @@ same-length-2 c = search needs
 
 returns : tie.Need-returns
 returns c =
-    let a = c .before .before .before .before .before .before .before .before .before .before .before .before .before .before .before .before .args in
+    let at-put = c .before .before .before .before in
+    let at-horizontal = at-put .before .before .before .before .before in
+    let at-span = at-horizontal .before in
+    let entered = at-span .before .before .before .before .before .before in
+    let a = entered .args in
     let w = a .self .width in
     let row =
-    c .before .before .before .before .before .before .before .before .before .horizontal .ensures
-    ∙ ap (λ (k : ℕ). halfHorizontal (a .kernel) k (now (c .before .before .before .before .before .before .before .before .before .before .span .result))) (length-take-le w (now (a .scratch)) (omega (arith, c .before .before .before .before .before .before .before .before .before .before .before .before .before .before .before .before .pre)))
-    ∙ ap (halfHorizontal (a .kernel) w) (c .before .before .before .before .before .before .before .before .before .before .span .ensures .0) in
-    c .before .before .before .before .put .ensures ∙ ap (put (now (a .frame)) (a .t)) row
+    at-horizontal .horizontal .ensures
+    ∙ ap (λ (k : ℕ). halfHorizontal (a .kernel) k (now (at-span .span .result))) (length-take-le w (now (a .scratch)) (omega (arith, entered .pre)))
+    ∙ ap (halfHorizontal (a .kernel) w) (at-span .span .ensures .0) in
+    at-put .put .ensures ∙ ap (put (now (a .frame)) (a .t)) row
 
 pub horizontal-row-spec : {M : Type 1} → statement M
 horizontal-row-spec =

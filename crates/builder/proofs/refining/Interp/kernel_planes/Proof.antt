@@ -17,13 +17,29 @@ plane-requires-3 : tie.Need-plane-requires-3
 plane-requires-3 c κs = search needs
 
 horizontal-requires : tie.Need-horizontal-requires
-horizontal-requires c κs = let a = c .before .before .before .before .before .before .before .args in horizontal-fits (c .before .before .before .before .before .before .before .pre .1) (a .a) _ 0 0 (omega (arith, c .before .before .before .before .before .before .before .pre .0 .across)) (c .before .before .before .before .plane .ensures) (omega arith) (omega arith)
+horizontal-requires c κs =
+    let at-plane = c .before .before .before .before in
+    let entered = at-plane .before .before .before in
+    let a = entered .args in
+    horizontal-fits (entered .pre .1) (a .a) _ 0 0 (omega (arith, entered .pre .0 .across)) (at-plane .plane .ensures) (omega arith) (omega arith)
 
 vertical-requires : tie.Need-vertical-requires
-vertical-requires c κs = let a = c .before .before .before .before .before .before .before .before .before .before .before .before .before .before .args in vertical-fits (planes-kept (c .before .before .before .before .before .before .before .before .before .before .before .before .before .before .pre .1) (c .before .before .before .before .before .before .horizontal .kept .1 .1 .0) (c .before .before .before .before .before .before .horizontal .kept .1 .1 .1 .0)) (a .b) _ (omega (arith, c .before .before .before .before .before .before .before .before .before .before .before .before .before .before .pre .0 .below)) (omega (arith, c .before .before .before .before .before .before .before .before .before .before .before .before .before .before .pre .0 .some)) (c .before .before .before .before .before .before .before .before .before .before .plane2 .ensures)
+vertical-requires c κs =
+    let at-horizontal = c .before .before .before .before .before .before in
+    let at-plane2 = at-horizontal .before .before .before .before in
+    let entered = at-plane2 .before .before .before .before in
+    let a = entered .args in
+    vertical-fits (planes-kept (entered .pre .1) (at-horizontal .horizontal .kept .1 .1 .0) (at-horizontal .horizontal .kept .1 .1 .1 .0)) (a .b) _ (omega (arith, entered .pre .0 .below)) (omega (arith, entered .pre .0 .some)) (at-plane2 .plane2 .ensures)
 
 horizontal-requires-2 : tie.Need-horizontal-requires-2
-horizontal-requires-2 c κs = let a = c .before .before .before .before .before .before .before .before .before .before .before .before .before .before .before .before .before .before .before .before .before .args in horizontal-fits (planes-kept (planes-kept (c .before .before .before .before .before .before .before .before .before .before .before .before .before .before .before .before .before .before .before .before .before .pre .1) (c .before .before .before .before .before .before .before .before .before .before .before .before .before .horizontal .kept .1 .1 .0) (c .before .before .before .before .before .before .before .before .before .before .before .before .before .horizontal .kept .1 .1 .1 .0)) (c .before .before .before .before .before .before .vertical .kept .1 .1 .0) (c .before .before .before .before .before .before .vertical .kept .1 .1 .1 .0)) (a .d) _ (a .b) _ (omega arith) (c .before .before .before .before .before .before .before .before .before .before .before .before .before .before .before .before .plane3 .ensures) (omega (arith, c .before .before .before .before .before .before .before .before .before .before .before .before .before .before .before .before .before .before .before .before .before .pre .0 .below)) (c .before .before .before .before .before .before .before .before .before .before .before .before .before .before .before .before .before .plane2 .ensures)
+horizontal-requires-2 c κs =
+    let at-vertical = c .before .before .before .before .before .before in
+    let at-horizontal = at-vertical .before .before .before .before .before .before .before in
+    let at-plane3 = at-horizontal .before .before .before in
+    let at-plane2 = at-plane3 .before in
+    let entered = at-plane2 .before .before .before .before in
+    let a = entered .args in
+    horizontal-fits (planes-kept (planes-kept (entered .pre .1) (at-horizontal .horizontal .kept .1 .1 .0) (at-horizontal .horizontal .kept .1 .1 .1 .0)) (at-vertical .vertical .kept .1 .1 .0) (at-vertical .vertical .kept .1 .1 .1 .0)) (a .d) _ (a .b) _ (omega arith) (at-plane3 .plane3 .ensures) (omega (arith, entered .pre .0 .below)) (at-plane2 .plane2 .ensures)
 
 same-length : tie.Need-same-length
 same-length c = search needs
@@ -33,8 +49,15 @@ same-length-2 c = search needs
 
 returns : tie.Need-returns
 returns c =
-    let a = c .before .before .before .before .before .before .before .before .before .before .before .before .before .before .before .before .before .before .before .before .before .before .before .before .before .before .args in
-    kernel-stages (a .kernel) (a .self) (a .a) (a .b) (a .d) _ _ _ (c .before .before .before .before .before .before .before .before .before .before .before .before .before .before .before .before .before .before .before .before .before .before .before .plane .ensures) (c .before .before .before .before .before .before .before .before .before .before .before .before .before .before .before .before .before .before .before .before .before .before .plane2 .ensures) (c .before .before .before .before .before .before .before .before .before .before .before .before .before .before .before .before .before .before .before .before .before .plane3 .ensures) (now (a .frame)) _ _ _ (c .before .before .before .before .before .before .before .before .before .before .before .before .before .before .before .before .before .before .horizontal .ensures) (c .before .before .before .before .before .before .before .before .before .before .before .vertical .ensures) (c .before .before .before .before .horizontal2 .ensures)
+    let at-horizontal2 = c .before .before .before .before in
+    let at-vertical = at-horizontal2 .before .before .before .before .before .before .before in
+    let at-horizontal = at-vertical .before .before .before .before .before .before .before in
+    let at-plane3 = at-horizontal .before .before .before in
+    let at-plane2 = at-plane3 .before in
+    let at-plane = at-plane2 .before in
+    let entered = at-plane .before .before .before in
+    let a = entered .args in
+    kernel-stages (a .kernel) (a .self) (a .a) (a .b) (a .d) _ _ _ (at-plane .plane .ensures) (at-plane2 .plane2 .ensures) (at-plane3 .plane3 .ensures) (now (a .frame)) _ _ _ (at-horizontal .horizontal .ensures) (at-vertical .vertical .ensures) (at-horizontal2 .horizontal2 .ensures)
 
 pub kernel-planes-spec : {M : Type 1} → statement M
 kernel-planes-spec =

@@ -12,13 +12,18 @@ plane-requires : tie.Need-plane-requires
 plane-requires c κs = search needs
 
 pair-requires : tie.Need-pair-requires
-pair-requires c κs = pair-fits (c .before .before .before .before .before .before .before .pre .1) (c .before .before .before .before .before .before .before .args .a) _ 1 _ (omega (arith, c .before .before .before .before .before .before .before .pre .0 .across)) (omega (arith, c .before .before .before .before .before .before .before .pre .0 .some)) (c .before .before .before .plane .ensures) (omega arith) (c .before .before .before .before .before .before .before .pre .2)
+pair-requires c κs =
+    let at-plane = c .before .before .before in
+    let entered = at-plane .before .before .before .before in
+    pair-fits (entered .pre .1) (entered .args .a) _ 1 _ (omega (arith, entered .pre .0 .across)) (omega (arith, entered .pre .0 .some)) (at-plane .plane .ensures) (omega arith) (entered .pre .2)
 
 pair-under-row-requires : tie.Need-pair-under-row-requires
 pair-under-row-requires c κs =
-    let h = c .before .before .before .before .before .before .before .before .before .before .before .before .before .before .before .before .before .pre .0 in
-    let k = c .before .before .before .before .before .before .before .before .before .pair .kept .1 in
-    (record { some = h .down; most = omega (arith, h .below, h .most); near = omega arith; first = omega arith }, planes-fewer (planes-kept (c .before .before .before .before .before .before .before .before .before .before .before .before .before .before .before .before .before .pre .1) (k .0) (k .1 .1 .0)) (omega (arith, h .below)), omega (arith, c .before .before .before .before .before .before .before .before .before .before .before .before .before .before .before .before .before .pre .2, k .1 .0))
+    let at-pair = c .before .before .before .before .before .before .before .before .before in
+    let entered = at-pair .before .before .before .before .before .before .before .before in
+    let h = entered .pre .0 in
+    let k = at-pair .pair .kept .1 in
+    (record { some = h .down; most = omega (arith, h .below, h .most); near = omega arith; first = omega arith }, planes-fewer (planes-kept (entered .pre .1) (k .0) (k .1 .1 .0)) (omega (arith, h .below)), omega (arith, entered .pre .2, k .1 .0))
 
 add-pair-under-row : tie.Need-add-pair-under-row
 add-pair-under-row c = search needs
@@ -37,8 +42,13 @@ same-length-3 c = search needs
 
 returns : tie.Need-returns
 returns c =
-    let a = c .before .before .before .before .before .before .before .before .before .before .before .before .before .before .before .before .before .before .before .before .before .before .before .before .before .before .before .before .before .before .before .before .before .before .before .args in
-    mean-stages (a .self) (a .a) (a .b) (a .d) _ (c .before .before .before .before .before .before .before .before .before .before .before .before .before .before .before .before .before .before .before .before .before .before .before .before .before .before .before .before .before .before .before .plane .ensures) (now (a .frame) ++ now (a .spill)) _ _ _ (c .before .before .before .before .before .before .before .before .before .before .before .before .before .before .before .before .before .before .before .before .before .before .before .before .before .before .before .pair .ensures) (c .before .before .before .before .before .before .before .before .before .before .before .before .before .before .before .before .before .pair-under-row .ensures) (c .before .before .before .before .before .before .pair-under-row2 .ensures)
+    let at-pair-under-row2 = c .before .before .before .before .before .before in
+    let at-pair-under-row = at-pair-under-row2 .before .before .before .before .before .before .before .before .before .before .before in
+    let at-pair = at-pair-under-row .before .before .before .before .before .before .before .before .before .before in
+    let at-plane = at-pair .before .before .before .before in
+    let entered = at-plane .before .before .before .before in
+    let a = entered .args in
+    mean-stages (a .self) (a .a) (a .b) (a .d) _ (at-plane .plane .ensures) (now (a .frame) ++ now (a .spill)) _ _ _ (at-pair .pair .ensures) (at-pair-under-row .pair-under-row .ensures) (at-pair-under-row2 .pair-under-row2 .ensures)
 
 pub mean-planes-spec : {M : Type 1} → statement M
 mean-planes-spec =

@@ -25,24 +25,48 @@ loop-holds : tie.Need-loop-holds Inv-loop μ-loop
 loop-holds c = (walked-none, refl, refl, refl)
 
 mul-row : tie.Need-mul-row Inv-loop μ-loop
-mul-row c = let i = c .before .before .before .before .before .before .before .args .self in omega (arith, row-in (c .before .before .loop .y) (i .height) (i .pitch) (c .before .loop-test .taken), c .before .before .before .before .before .before .before .pre .target)
+mul-row c =
+    let at-loop-test = c .before in
+    let at-loop = at-loop-test .before in
+    let entered = at-loop .before .before .before .before .before in
+    let i = entered .args .self in
+    omega (arith, row-in (at-loop .loop .y) (i .height) (i .pitch) (at-loop-test .loop-test .taken), entered .pre .target)
 
 add-pair-row : tie.Need-add-pair-row Inv-loop μ-loop
-add-pair-row c = let i = c .before .before .before .before .before .before .before .before .before .before .args .self in omega (arith, row-in (c .before .before .before .before .before .loop .y) (i .height) (i .pitch) (c .before .before .before .before .loop-test .taken), c .before .before .before .before .before .before .before .before .before .before .pre .target)
+add-pair-row c =
+    let at-loop-test = c .before .before .before .before in
+    let at-loop = at-loop-test .before in
+    let entered = at-loop .before .before .before .before .before in
+    let i = entered .args .self in
+    omega (arith, row-in (at-loop .loop .y) (i .height) (i .pitch) (at-loop-test .loop-test .taken), entered .pre .target)
 
 add-pair-row-2 : tie.Need-add-pair-row-2 Inv-loop μ-loop
-add-pair-row-2 c = let i = c .before .before .before .before .before .before .before .before .before .before .args .self in omega (arith, row-in (c .before .before .before .before .before .loop .y) (i .height) (i .pitch) (c .before .before .before .before .loop-test .taken), c .before .before .before .before .before .before .before .before .before .before .pre .left)
+add-pair-row-2 c =
+    let at-loop-test = c .before .before .before .before in
+    let at-loop = at-loop-test .before in
+    let entered = at-loop .before .before .before .before .before in
+    let i = entered .args .self in
+    omega (arith, row-in (at-loop .loop .y) (i .height) (i .pitch) (at-loop-test .loop-test .taken), entered .pre .left)
 
 add-pair-row-3 : tie.Need-add-pair-row-3 Inv-loop μ-loop
-add-pair-row-3 c = let i = c .before .before .before .before .before .before .before .before .before .before .args .self in omega (arith, row-in (c .before .before .before .before .before .loop .y) (i .height) (i .pitch) (c .before .before .before .before .loop-test .taken), c .before .before .before .before .before .before .before .before .before .before .pre .right)
+add-pair-row-3 c =
+    let at-loop-test = c .before .before .before .before in
+    let at-loop = at-loop-test .before in
+    let entered = at-loop .before .before .before .before .before in
+    let i = entered .args .self in
+    omega (arith, row-in (at-loop .loop .y) (i .height) (i .pitch) (at-loop-test .loop-test .taken), entered .pre .right)
 
 pair-row-requires : tie.Need-pair-row-requires Inv-loop μ-loop
 pair-row-requires c κs =
-    let i = c .before .before .before .before .before .before .before .before .before .before .args .self in
-    let row = row-in (c .before .before .before .before .before .loop .y) (i .height) (i .pitch) (c .before .before .before .before .loop-test .taken) in
-    let p = c .before .before .before .before .before .before .before .before .before .before .pre in
-    let v = c .before .before .before .before .before .loop .inv in
-    let n = c .before .before .before .before .before .before .chunked .ensures .1 in
+    let at-loop-test = c .before .before .before .before in
+    let at-loop = at-loop-test .before in
+    let at-chunked = at-loop .before in
+    let entered = at-chunked .before .before .before .before in
+    let i = entered .args .self in
+    let row = row-in (at-loop .loop .y) (i .height) (i .pitch) (at-loop-test .loop-test .taken) in
+    let p = entered .pre in
+    let v = at-loop .loop .inv in
+    let n = at-chunked .chunked .ensures .1 in
     record {
       target = omega (arith, row, p .target, p .fits, p .beyond, n, v .1, v .2);
       left = omega (arith, row, p .left, v .1);
@@ -58,10 +82,13 @@ loop-less c = omega arith
 
 loop-again : tie.Need-loop-again Inv-loop μ-loop
 loop-again c =
-    let q = c .before .before .before .before .before .before .pair-row in
-    let l = c .before .before .before .before .before .before .before .before .before .before .before .before .loop in
+    let at-pair-row = c .before .before .before .before .before .before in
+    let at-loop-test = at-pair-row .before .before .before .before .before in
+    let at-loop = at-loop-test .before in
+    let q = at-pair-row .pair-row in
+    let l = at-loop .loop in
     let v = l .inv in
-    (walked-more (v .0) (c .before .before .before .before .before .before .before .before .before .before .before .loop-test .taken) (both-lengths (q .last .0) (q .last .1 .0) (l .frame) (l .spill) (q .kept .0) (q .kept .1 .0)) (q .ensures), q .kept .0 ∙ v .1, q .kept .1 .0 ∙ v .2, q .kept .1 .1 .0 ∙ v .3)
+    (walked-more (v .0) (at-loop-test .loop-test .taken) (both-lengths (q .last .0) (q .last .1 .0) (l .frame) (l .spill) (q .kept .0) (q .kept .1 .0)) (q .ensures), q .kept .0 ∙ v .1, q .kept .1 .0 ∙ v .2, q .kept .1 .1 .0 ∙ v .3)
 
 same-length : tie.Need-same-length Inv-loop μ-loop
 same-length c = c .before .loop .inv .1

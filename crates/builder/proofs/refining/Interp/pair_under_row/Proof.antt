@@ -16,10 +16,17 @@ plane-requires : tie.Need-plane-requires
 plane-requires c κs = search needs
 
 pair-requires : tie.Need-pair-requires
-pair-requires c κs = pair-fits (c .before .before .before .before .before .before .before .pre .1) (c .before .before .before .before .before .before .before .args .k) _ (c .before .before .before .before .before .before .before .args .r) _ (omega arith) (omega (arith, c .before .before .before .before .before .before .before .pre .0 .some)) (c .before .before .before .plane .ensures) (c .before .before .before .before .before .before .before .pre .0 .near) (c .before .before .before .before .before .before .before .pre .2)
+pair-requires c κs =
+    let at-plane = c .before .before .before in
+    let entered = at-plane .before .before .before .before in
+    pair-fits (entered .pre .1) (entered .args .k) _ (entered .args .r) _ (omega arith) (omega (arith, entered .pre .0 .some)) (at-plane .plane .ensures) (entered .pre .0 .near) (entered .pre .2)
 
 copy-first-row-requires : tie.Need-copy-first-row-requires
-copy-first-row-requires c κs = first-row-fits (planes-kept (c .before .before .before .before .before .before .before .before .before .before .before .before .before .before .before .before .pre .1) (c .before .before .before .before .before .before .before .before .pair .kept .1 .0) (c .before .before .before .before .before .before .before .before .pair .kept .1 .1 .1 .0)) (c .before .before .before .before .before .before .before .before .before .before .before .before .before .before .before .before .args .k) _ (c .before .before .before .before .before .before .before .before .before .before .before .before .before .before .before .before .args .s) (omega arith) (c .before .before .before .before .before .before .before .before .before .before .before .before .plane .ensures) (c .before .before .before .before .before .before .before .before .before .before .before .before .before .before .before .before .pre .0 .first)
+copy-first-row-requires c κs =
+    let at-pair = c .before .before .before .before .before .before .before .before in
+    let at-plane = at-pair .before .before .before .before in
+    let entered = at-plane .before .before .before .before in
+    first-row-fits (planes-kept (entered .pre .1) (at-pair .pair .kept .1 .0) (at-pair .pair .kept .1 .1 .1 .0)) (entered .args .k) _ (entered .args .s) (omega arith) (at-plane .plane .ensures) (entered .pre .0 .first)
 
 same-length : tie.Need-same-length
 same-length c = search needs
@@ -32,16 +39,20 @@ same-length-3 c = search needs
 
 returns : tie.Need-returns
 returns c =
-    let a = c .before .before .before .before .before .before .before .before .before .before .before .before .before .before .before .before .before .before .before .before .before .args in
+    let at-copy-first-row = c .before .before .before .before in
+    let at-pair = at-copy-first-row .before .before .before .before .before .before .before .before .before in
+    let at-plane = at-pair .before .before .before .before in
+    let entered = at-plane .before .before .before .before in
+    let a = entered .args in
     let i = a .self in
-    let F = c .before .before .before .before .before .before .before .before .before .before .before .before .before .pair .last .1 .0 in
-    let S = c .before .before .before .before .before .before .before .before .before .before .before .before .before .pair .last .1 .1 .0 in
-    let t = c .before .before .before .before .before .before .before .before .before .before .before .before .before .before .before .before .before .plane .result in
-    let fits = first-row-fits (planes-kept (c .before .before .before .before .before .before .before .before .before .before .before .before .before .before .before .before .before .before .before .before .before .pre .1) (c .before .before .before .before .before .before .before .before .before .before .before .before .before .pair .kept .1 .0) (c .before .before .before .before .before .before .before .before .before .before .before .before .before .pair .kept .1 .1 .1 .0)) (c .before .before .before .before .before .before .before .before .before .before .before .before .before .before .before .before .before .before .before .before .before .args .k) _ (c .before .before .before .before .before .before .before .before .before .before .before .before .before .before .before .before .before .before .before .before .before .args .s) (omega arith) (c .before .before .before .before .before .before .before .before .before .before .before .before .before .before .before .before .before .plane .ensures) (c .before .before .before .before .before .before .before .before .before .before .before .before .before .before .before .before .before .before .before .before .before .pre .0 .first) in
-    ap (λ (x : List ℕ). x ++ S) (c .before .before .before .before .copy-first-row .ensures)
+    let F = at-pair .pair .last .1 .0 in
+    let S = at-pair .pair .last .1 .1 .0 in
+    let t = at-plane .plane .result in
+    let fits = first-row-fits (planes-kept (entered .pre .1) (at-pair .pair .kept .1 .0) (at-pair .pair .kept .1 .1 .1 .0)) (entered .args .k) _ (entered .args .s) (omega arith) (at-plane .plane .ensures) (entered .pre .0 .first) in
+    ap (λ (x : List ℕ). x ++ S) (at-copy-first-row .copy-first-row .ensures)
     ∙ copy-inside (length F) (a .s) t (i .width) (fits .0) (fits .1) .aside F S refl
-    ∙ ap (copyRun (a .s) t (i .width)) (c .before .before .before .before .before .before .before .before .before .before .before .before .before .pair .ensures)
-    ∙ ap (λ (k : ℕ). copyRun (a .s) k (i .width) (pairPlane i k 0 (a .r) (now (a .frame) ++ now (a .spill)))) (c .before .before .before .before .before .before .before .before .before .before .before .before .before .before .before .before .before .plane .ensures)
+    ∙ ap (copyRun (a .s) t (i .width)) (at-pair .pair .ensures)
+    ∙ ap (λ (k : ℕ). copyRun (a .s) k (i .width) (pairPlane i k 0 (a .r) (now (a .frame) ++ now (a .spill)))) (at-plane .plane .ensures)
 
 pub pair-under-row-spec : {M : Type 1} → statement M
 pair-under-row-spec =

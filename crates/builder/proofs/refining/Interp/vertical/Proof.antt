@@ -20,9 +20,12 @@ loop-holds c = (walked-none, refl)
 
 vertical-row-requires : tie.Need-vertical-row-requires Inv-loop μ-loop
 vertical-row-requires c κs =
-    let p = c .before .before .before .before .before .before .pre in
-    let e = c .before .before .before .loop .inv .0 .same in
-    (c .before .before .loop-test .taken, record { fits = p .fits; most = p .most; source = omega (arith, p .source, e); target = omega (arith, p .target, e); room = omega (arith, p .room, c .before .before .before .loop .inv .1) })
+    let at-loop-test = c .before .before in
+    let at-loop = at-loop-test .before in
+    let entered = at-loop .before .before .before in
+    let p = entered .pre in
+    let e = at-loop .loop .inv .0 .same in
+    (at-loop-test .loop-test .taken, record { fits = p .fits; most = p .most; source = omega (arith, p .source, e); target = omega (arith, p .target, e); room = omega (arith, p .room, at-loop .loop .inv .1) })
 
 add-y : tie.Need-add-y Inv-loop μ-loop
 add-y c = omega arith
@@ -31,7 +34,11 @@ loop-less : tie.Need-loop-less Inv-loop μ-loop
 loop-less c = omega arith
 
 loop-again : tie.Need-loop-again Inv-loop μ-loop
-loop-again c = (walked-more (c .before .before .before .before .before .before .before .before .loop .inv .0) (c .before .before .before .before .before .before .before .loop-test .taken) (c .before .before .before .before .vertical-row .kept .1 .1 .0) (c .before .before .before .before .vertical-row .ensures), c .before .before .before .before .vertical-row .kept .1 .1 .1 .0 ∙ c .before .before .before .before .before .before .before .before .loop .inv .1)
+loop-again c =
+    let at-vertical-row = c .before .before .before .before in
+    let at-loop-test = at-vertical-row .before .before .before in
+    let at-loop = at-loop-test .before in
+    (walked-more (at-loop .loop .inv .0) (at-loop-test .loop-test .taken) (at-vertical-row .vertical-row .kept .1 .1 .0) (at-vertical-row .vertical-row .ensures), at-vertical-row .vertical-row .kept .1 .1 .1 .0 ∙ at-loop .loop .inv .1)
 
 same-length : tie.Need-same-length Inv-loop μ-loop
 same-length c = c .before .loop .inv .0 .same

@@ -20,13 +20,24 @@ vertical-line-requires : tie.Need-vertical-line-requires
 vertical-line-requires c κs = let a = c .before .before .before .before .before .args in let p = c .before .before .before .before .before .pre in (p .0, p .1 .most, length-take-le (a .self .width) (now (a .scratch)) (p .1 .room), p .1 .fits, p .1 .source)
 
 mul-put : tie.Need-mul-put
-mul-put c = let i = c .before .before .before .before .before .before .before .before .before .before .args .self in omega (arith, row-in (c .before .before .before .before .before .before .before .before .before .before .args .y) (i .height) (i .pitch) (c .before .before .before .before .before .before .before .before .before .before .pre .0), c .before .before .before .before .before .before .before .before .before .before .pre .1 .target)
+mul-put c =
+    let entered = c .before .before .before .before .before .before .before .before .before .before in
+    let i = entered .args .self in
+    omega (arith, row-in (entered .args .y) (i .height) (i .pitch) (entered .pre .0), entered .pre .1 .target)
 
 add-put : tie.Need-add-put
-add-put c = let i = c .before .before .before .before .before .before .before .before .before .before .args .self in omega (arith, row-in (c .before .before .before .before .before .before .before .before .before .before .args .y) (i .height) (i .pitch) (c .before .before .before .before .before .before .before .before .before .before .pre .0), c .before .before .before .before .before .before .before .before .before .before .pre .1 .target)
+add-put c =
+    let entered = c .before .before .before .before .before .before .before .before .before .before in
+    let i = entered .args .self in
+    omega (arith, row-in (entered .args .y) (i .height) (i .pitch) (entered .pre .0), entered .pre .1 .target)
 
 put-requires : tie.Need-put-requires
-put-requires c κs = let a = c .before .before .before .before .before .before .before .before .before .before .before .args in let i = a .self in omega (arith, row-in (a .y) (i .height) (i .pitch) (c .before .before .before .before .before .before .before .before .before .before .before .pre .0), c .before .before .before .before .before .before .before .before .before .before .before .pre .1 .target, c .before .before .before .before .before .before .before .before .before .before .before .pre .1 .fits, c .before .before .before .before .before .vertical-line .kept .1 .1 .0, length-take-le (i .width) (now (a .scratch)) (c .before .before .before .before .before .before .before .before .before .before .before .pre .1 .room))
+put-requires c κs =
+    let at-vertical-line = c .before .before .before .before .before in
+    let entered = at-vertical-line .before .before .before .before .before .before in
+    let a = entered .args in
+    let i = a .self in
+    omega (arith, row-in (a .y) (i .height) (i .pitch) (entered .pre .0), entered .pre .1 .target, entered .pre .1 .fits, at-vertical-line .vertical-line .kept .1 .1 .0, length-take-le (i .width) (now (a .scratch)) (entered .pre .1 .room))
 
 same-length : tie.Need-same-length
 same-length c = search needs
@@ -35,7 +46,12 @@ same-length-2 : tie.Need-same-length-2
 same-length-2 c = search needs
 
 returns : tie.Need-returns
-returns c = let a = c .before .before .before .before .before .before .before .before .before .before .before .before .before .before .before .before .args in c .before .before .before .before .put .ensures ∙ ap (put (now (a .frame)) (a .t + a .y * a .self .pitch)) (c .before .before .before .before .before .before .before .before .before .before .vertical-line .ensures)
+returns c =
+    let at-put = c .before .before .before .before in
+    let at-vertical-line = at-put .before .before .before .before .before .before in
+    let entered = at-vertical-line .before .before .before .before .before .before in
+    let a = entered .args in
+    at-put .put .ensures ∙ ap (put (now (a .frame)) (a .t + a .y * a .self .pitch)) (at-vertical-line .vertical-line .ensures)
 
 pub vertical-row-spec : {M : Type 1} → statement M
 vertical-row-spec =
