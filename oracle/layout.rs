@@ -1,5 +1,6 @@
 //! Cases about layouts, and the Rust's answers. The form of a line is in crates/replay_layout/src/main.rt.
 
+use crate::met::Met;
 use crate::random::Random;
 use crate::settings::{accept, check, print, words_of};
 use crate::super_build as sb;
@@ -23,6 +24,7 @@ pub fn laid_out(w: &[u32]) -> Result<SuperOpts, u32> {
 
 pub fn answers() {
     let mut out = BufWriter::new(std::io::stdout().lock());
+    let mut met = Met::default();
     for line in std::io::stdin().lock().lines() {
         let w: Vec<u32> = line.unwrap().split(' ').map(|x| u32::from_str_radix(x, 16).unwrap()).collect();
         let mut answer = vec![0u32; 2 + 4 * LEVELS + 3];
@@ -37,8 +39,10 @@ pub fn answers() {
             }
             Err(number) => (answer[0], answer[54]) = (number, number),
         }
+        met.note(answer[0]);
         print(&mut out, &answer);
     }
+    met.tell();
 }
 
 /// A record of these settings.
@@ -46,7 +50,7 @@ pub fn record(pel: u32, full: bool, width: u32, height: u32) -> [u32; 10] {
     words_of(&check(127, &[pel, 1, 4, 0, full.into(), 0, 0, 0, width, height]).unwrap())
 }
 
-/// Every size from 1 to 64 with every shift, full or not, and pel, at the least pitch, one below it, and a wide one; then `count` of any size, some with a value changed.
+/// Every size from 1 to 64 with every shift, full or not, and pel, at the least pitch, one below it, and a wide one (the kept list: sizes 1 to 6, the pitches in turn); then `count` of any size, some with a value changed.
 pub fn cases(seed: u64, count: u64) {
     let mut rng = Random(seed);
     let mut out = BufWriter::new(std::io::stdout().lock());
@@ -57,8 +61,11 @@ pub fn cases(seed: u64, count: u64) {
                 for shifts in 0..4 {
                     let r = record(pel, full, width, height);
                     let least = (if full { width } else { reduce_dim(width as i32, 1) as u32 } >> (shifts & 1)).max(1);
-                    let pitch = [least, least - 1, least + 13][(width + height + shifts) as usize % 3];
-                    print(&mut out, &[&r[..], &[shifts & 1, shifts >> 1, 0, pitch]].concat());
+                    let pitches = [least, least - 1, least + 13];
+                    let turn = (width + height + shifts) as usize % 3;
+                    for pitch in if count == 0 { &pitches[turn..=turn] } else { &pitches[..] } {
+                        print(&mut out, &[&r[..], &[shifts & 1, shifts >> 1, 0, *pitch]].concat());
+                    }
                 }
             }
         }

@@ -32,6 +32,7 @@ mod analyse {
 
 mod layout;
 mod margins;
+mod met;
 mod random;
 mod rows;
 mod settings;

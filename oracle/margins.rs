@@ -1,6 +1,7 @@
 //! Cases about a frame's margins and rows, and the Rust's answers. The form of a case is in crates/replay_margins/src/main.rt.
 
 use crate::layout::{laid_out, record};
+use crate::met::Met;
 use crate::random::Random;
 use crate::super_build as sb;
 use std::io::{BufWriter, Read, Write};
@@ -32,6 +33,7 @@ pub fn answers() {
     let mut from = std::io::BufReader::new(std::io::stdin().lock());
     let mut out = BufWriter::new(std::io::stdout().lock());
     let mut head = [0u8; 80];
+    let mut met = Met::default();
     while from.read_exact(&mut head).is_ok() {
         let w: Vec<u32> = head.chunks(4).map(|c| u32::from_le_bytes(c.try_into().unwrap())).collect();
         let mut frame = vec![0; w[14] as usize];
@@ -41,28 +43,65 @@ pub fn answers() {
                 Ok(r) => { sb::clear(&mut frame, &r, w[13] as usize, (w[10], w[11])); 0 }
                 Err(number) => number,
             };
+            met.note(number);
             write(&mut out, &[number], &frame);
         } else {
             let (number, row) = match row(&w, &frame) { Ok(row) => (0, row), Err(number) => (number, vec![]) };
+            met.note(number);
             write(&mut out, &[number, row.len() as u32], &row);
+        }
+    }
+    met.tell();
+}
+
+fn garbage(rng: &mut Random, len: u32) -> Vec<u8> {
+    (0..len).map(|_| 1 + rng.below(255) as u8).collect()
+}
+
+/// The least pitch of a plane.
+fn least(full: bool, width: u32, x_shift: u32) -> u32 {
+    (if full { width } else { 2 * (width / 4) } >> x_shift).max(1)
+}
+
+/// Every size from 1 to 64 with every shift, full or not, and pel: margins to be cleared.
+/// Pitches, down values and spare lengths take turns: 16 cases to a size and 5, 7 and 3 values have no common factor, so each combination comes.
+fn sizes(rng: &mut Random, out: &mut impl Write) {
+    let mut turn = 0;
+    for width in 1..=64 {
+        for height in 1..=64 {
+            for (pel, full) in SETTINGS {
+                for (x, y) in [(0, 0), (0, 1), (1, 0), (1, 1)] {
+                    let mut w = record(pel, full, width, height).to_vec();
+                    w[2] = [4, 0, 1, 2, 3, 5, u32::MAX][turn / 5 % 7];
+                    let pitch = least(full, width, x) + [0, 1, 3, 8, 16][turn % 5];
+                    w.extend([x, y, 0, pitch]);
+                    let end = sb::layout(&laid_out(&w).unwrap(), pitch as usize, (x, y)).1 as u32;
+                    let len = end + [0, 1, 1 + rng.below(80) as u32][turn / 35 % 3];
+                    w.extend([len, 0, 0, 0, 0, 0]);
+                    write(out, &w, &garbage(rng, len));
+                    turn += 1;
+                }
+            }
         }
     }
 }
 
-/// `count` cases of sides 1 to 40 (the kept list: 1 to 16), with every shift, full or not, pel and down; frames exact, longer and one short; random bytes before; some with a value changed.
+const SETTINGS: [(u32, bool); 4] = [(1, true), (2, true), (4, true), (1, false)];
+
+/// `count` cases of sides 1 to 64 (the kept list: 1 to 16), with every shift, full or not, pel and down; frames exact, longer and one short; random bytes before; some with a value changed. Before them, but for the kept list, every size.
 pub fn cases(seed: u64, count: u64) {
     let mut rng = Random(seed);
     let mut out = BufWriter::new(std::io::stdout().lock());
-    let sides = if count <= 600 { 16 } else { 40 };
+    let sides = if count <= 600 { 16 } else { 64 };
+    if count > 600 { sizes(&mut rng, &mut out); }
     for k in 0..count {
         let mut side = || 1 + rng.below(sides) as u32;
         let (width, height) = (side(), side());
-        let (pel, full) = rng.pick(&[(1, true), (2, true), (4, true), (1, false)]);
+        let (pel, full) = rng.pick(&SETTINGS);
         let mut w = record(pel, full, width, height).to_vec();
         w[2] = rng.pick(&[4, 4, 4, 0, 2, 3, 5]);
         let (x, y) = (rng.below(2) as u32, rng.below(2) as u32);
-        let least = (if full { width } else { 2 * (width / 4) } >> x).max(1);
-        let pitch = least + rng.pick(&[0, 0, 1, 3, 8, 16]);
+        let pitch = least(full, width, x) + rng.pick(&[0, 0, 1, 3, 8, 16]);
         w.extend([x, y, 0, pitch]);
         let end = laid_out(&w).map_or(0, |r| sb::layout(&r, pitch as usize, (x, y)).1) as u32;
         let len = match rng.below(6) { 0 => end.saturating_sub(1), 1 | 2 => end + rng.below(81) as u32, _ => end };
@@ -72,7 +111,6 @@ pub fn cases(seed: u64, count: u64) {
             w[at] = rng.pick(&[0, 1, 2, 3, u32::MAX, 32_769, 1 << 31]);
             if at == 4 { w[4] &= 1; }
         }
-        let frame: Vec<u8> = (0..len).map(|_| 1 + rng.below(255) as u8).collect();
-        write(&mut out, &w, &frame);
+        write(&mut out, &w, &garbage(&mut rng, len));
     }
 }

@@ -13,35 +13,32 @@ use settings::numbers::from_bits;
 use settings::refusal::Tested;
 use settings::super_opts::SuperOpts;
 
-const MOST: usize = 49152;
-
 fn main() {
+    let mut frame = [0u8; 131072];
+    answer_all(&mut frame);
+}
+
+fn answer_all(frame: &mut [u8]) {
     let mut cases: u32 = 0;
     while cases < 4_000_000 {
-        if !answer_one() {
+        if !answer_one(frame) {
             return;
         }
         cases += 1;
     }
 }
 
-fn answer_one() -> bool {
+// A case whose frame is longer than the one lent ends the program: its answer is missing.
+fn answer_one(frame: &mut [u8]) -> bool {
     let mut head = [0u8; 80];
     if io::read_full(STDIN_FILENO, &mut head) < 80 {
         return false;
     }
     let len = word(&head, 14) as usize;
-    if MOST < len {
+    if frame.len() < len {
         return false;
     }
-    let mut frame = [0u8; 49152];
-    answer(&head, &mut frame, len)
-}
-
-fn answer(head: &[u8; 80], frame: &mut [u8], len: usize) -> bool
-    requires { ⌜ len ≤ length (now frame) ⌝ }
-{
-    answer_frame(head, &mut frame[..len])
+    answer_frame(&head, &mut frame[..len])
 }
 
 fn answer_frame(head: &[u8; 80], frame: &mut [u8]) -> bool {
