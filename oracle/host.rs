@@ -65,3 +65,7 @@ pub(crate) fn clear(frame: &mut [u8], r: &SuperOpts, pitch: usize, shifts: (u32,
     let len = frame.len();
     clear_margins(frame, &regions, pitch, len, r);
 }
+
+pub(crate) fn build(frame: &mut [u8], r: &SuperOpts, pitch: usize, shifts: (u32, u32), src: &[u8], src_pitch: usize) {
+    build_plane(frame, pitch, src, src_pitch, r.width as usize, r.height as usize, shifts, r);
+}

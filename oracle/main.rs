@@ -8,6 +8,10 @@
 //!     oracle layout                       the Rust's answers to such cases, from standard input
 //!     oracle margins-cases SEED COUNT     cases for `replay_margins`
 //!     oracle margins                      the Rust's answers to such cases, from standard input
+//!     oracle builds-cases SEED COUNT KIND cases for `replay_builds`, of kind halving, whole, large or kept
+//!     oracle builds                       the Rust's answers to such cases, from standard input
+//!     oracle builds-differs FILE          the first of the answers in the file that isn't the Rust's
+//!     oracle builds-pick AT               one of the cases, with its whole frame asked for
 //!     oracle words-cases SEED COUNT       words of accepted records, and damaged ones
 //!     oracle words-all                    every word of sides 1 to 24, and its neighbour
 //!     oracle words-packed                 what document 01 prints for each word that settings cases, from standard input, pack to
@@ -30,6 +34,7 @@ mod analyse {
     }
 }
 
+mod builds;
 mod layout;
 mod margins;
 mod met;
@@ -50,6 +55,10 @@ fn main() {
         Some("layout") => layout::answers(),
         Some("margins-cases") => margins::cases(number(1), number(2)),
         Some("margins") => margins::answers(),
+        Some("builds-cases") => builds::cases(number(1), number(2), words.get(3).map_or_else(|| usage(), String::as_str)),
+        Some("builds") => builds::answers(),
+        Some("builds-differs") => builds::differs(words.get(1).map_or_else(|| usage(), String::as_str)),
+        Some("builds-pick") => builds::pick(number(1)),
         Some("words-cases") => words::cases(number(1), number(2)),
         Some("words-all") => words::all(),
         Some("words-packed") => words::packed(),
@@ -59,6 +68,6 @@ fn main() {
 }
 
 fn usage() -> ! {
-    eprintln!("usage: oracle SUBJECT-cases SEED COUNT | oracle words-all | oracle words-packed | oracle SUBJECT; SUBJECT: settings, rows, layout, margins, words");
+    eprintln!("usage: oracle SUBJECT-cases SEED COUNT [KIND] | oracle words-all | oracle words-packed | oracle builds-differs FILE | oracle builds-pick AT | oracle SUBJECT; SUBJECT: settings, rows, layout, margins, builds, words");
     std::process::exit(2)
 }

@@ -15,6 +15,9 @@ read-full-requires c κs = search needs
 returns : tie.Need-returns
 returns c = search needs
 
+slice-aggregate-word : tie.Need-slice-aggregate-word
+slice-aggregate-word c = search needs
+
 word-requires : tie.Need-word-requires
 word-requires c κs = search needs
 
@@ -48,6 +51,7 @@ answer-one-spec =
     slice-aggregate-read-full
     read-full-requires
     returns
+    slice-aggregate-word
     word-requires
     cast-len
     returns-2

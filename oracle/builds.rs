@@ -1,0 +1,381 @@
+//! Cases about whole builds, and the Rust's answers. The form of a case is in crates/replay_builds/src/main.rt.
+//! First what a case is and what answers it; then what cases are made; last the search for the first case that differs.
+
+use crate::layout::laid_out;
+use crate::met::Met;
+use crate::random::Random;
+use crate::settings::{check, words_of};
+use crate::super_build as sb;
+use crate::super_opts::{SuperOpts, reduce_dim};
+use std::io::{BufReader, BufWriter, Read, Write};
+
+/// Document 01's limit on a pitch; the Rust has none.
+const MOST_PITCH: u64 = 32_768;
+const WORDS: usize = 24;
+/// What crates/replay_builds can hold of source, frame, spill and scratch.
+const HELD: [u32; 4] = [2_129_920, 4_194_304, 589_824, 524_800];
+
+#[derive(Clone)]
+struct Case {
+    words: [u32; WORDS],
+    source: Vec<u8>,
+    /// Frame, spill and scratch.
+    lent: [Vec<u8>; 3],
+}
+
+const SOURCE_PITCH: usize = 14;
+const LENGTHS: usize = 16;
+const WHOLE: usize = 20;
+const MADE: usize = 21;
+const SEED: usize = 22;
+
+/// The bytes that a seed makes.
+fn made(seed: u32, lengths: [usize; 3]) -> [Vec<u8>; 3] {
+    let mut x = u64::from(seed) % 0x7fff_ffff;
+    lengths.map(|n| (0..n).map(|_| { x = x * 48_271 % 0x7fff_ffff; (x >> 23) as u8 }).collect())
+}
+
+fn read(from: &mut impl Read) -> Option<Case> {
+    let mut head = [0u8; 4 * WORDS];
+    from.read_exact(&mut head).ok()?;
+    let words: [u32; WORDS] = std::array::from_fn(|k| u32::from_le_bytes(head[4 * k..][..4].try_into().unwrap()));
+    let mut bytes = |n: usize| { let mut b = vec![0; n]; from.read_exact(&mut b).unwrap(); b };
+    let lengths: [usize; 4] = std::array::from_fn(|k| words[LENGTHS + k] as usize);
+    let source = bytes(lengths[0]);
+    let rest = [lengths[1], lengths[2], lengths[3]];
+    let lent = if words[MADE] == 0 { rest.map(bytes) } else { made(words[SEED], rest) };
+    Some(Case { words, source, lent })
+}
+
+fn write(out: &mut impl Write, c: &Case) {
+    for w in c.words { out.write_all(&w.to_le_bytes()).unwrap(); }
+    out.write_all(&c.source).unwrap();
+    if c.words[MADE] == 0 { for b in &c.lent { out.write_all(b).unwrap(); } }
+}
+
+fn sums(bytes: &[u8]) -> [u8; 8] {
+    let sum = |m: u64| bytes.iter().fold(1u64, |h, &b| (h * m + u64::from(b)) % 4_294_967_291) as u32;
+    let [a, b] = [sum(1_000_003), sum(998_244_353)].map(u32::to_le_bytes);
+    [a, b].concat().try_into().unwrap()
+}
+
+fn long(w: &[u32], k: usize) -> u64 {
+    u64::from(w[k]) << 32 | u64::from(w[k + 1])
+}
+
+/// What a build needs: the least source pitch, and the lengths of source, frame, spill and scratch.
+fn needs(r: &SuperOpts, w: &[u32], source_pitch: u64) -> (u64, [u64; 4]) {
+    let pitch = u64::from(w[13]);
+    let (width, height) = ((r.width >> w[10]) as u64, (r.height >> w[11]) as u64);
+    let (_, end) = sb::layout(r, pitch as usize, (w[10], w[11]));
+    let source = if width == 0 || height == 0 { 0 } else { (height - 1) * source_pitch + width };
+    let spill = if !r.full && r.levels >= 2 { (reduce_dim(r.height, 1) >> w[11]) as u64 * pitch } else { 16 };
+    (width.max(1), [source, end as u64, spill, 16 * (pitch + 16)])
+}
+
+/// Numbers 6 to 13, or the record.
+fn judged(w: &[u32]) -> Result<SuperOpts, u32> {
+    let r = laid_out(&w[..14])?;
+    let source_pitch = long(w, SOURCE_PITCH);
+    let (least, _) = needs(&r, w, 0);
+    if source_pitch < least || source_pitch > MOST_PITCH { return Err(9); }
+    let (_, lengths) = needs(&r, w, source_pitch);
+    for (k, need) in lengths.into_iter().enumerate() {
+        if u64::from(w[LENGTHS + k]) < need { return Err(10 + k as u32); }
+    }
+    Ok(r)
+}
+
+/// The number, and what the lent bytes are after the call: a finished build leaves zeros in spill and scratch, a refusal changes nothing.
+fn built(c: &Case) -> (u32, [Vec<u8>; 3]) {
+    let w = &c.words;
+    let [mut frame, spill, scratch] = c.lent.clone();
+    match judged(w) {
+        Ok(r) => {
+            sb::build(&mut frame, &r, w[13] as usize, (w[10], w[11]), &c.source, w[SOURCE_PITCH + 1] as usize);
+            (0, [frame, vec![0; spill.len()], vec![0; scratch.len()]])
+        }
+        Err(number) => (number, [frame, spill, scratch]),
+    }
+}
+
+fn answer(c: &Case) -> (u32, Vec<u8>) {
+    let (number, lent) = built(c);
+    let mut out = number.to_le_bytes().to_vec();
+    for b in &lent { out.extend(sums(b)); }
+    if c.words[WHOLE] != 0 { out.extend(&lent[0]); }
+    (number, out)
+}
+
+pub fn answers() {
+    let mut from = BufReader::new(std::io::stdin().lock());
+    let mut out = BufWriter::new(std::io::stdout().lock());
+    let mut met = Met::default();
+    while let Some(c) = read(&mut from) {
+        let (number, bytes) = answer(&c);
+        met.note(number);
+        out.write_all(&bytes).unwrap();
+    }
+    met.tell();
+}
+
+/// What a case is made of before its bytes are; the lengths are what is needed and so much more.
+struct Plan {
+    record: [u32; 10],
+    shifts: (u32, u32),
+    /// Above the least.
+    pitch: u32,
+    source_pitch: u32,
+    spare: [u32; 4],
+}
+
+impl Plan {
+    fn case(&self) -> Case {
+        let (x, y) = self.shifts;
+        let (width, full) = (self.record[8], self.record[4] != 0);
+        let least = (if full { width } else { reduce_dim(width as i32, 1) as u32 } >> x).max(1);
+        let mut words = [0; WORDS];
+        words[..10].copy_from_slice(&self.record);
+        words[10..14].copy_from_slice(&[x, y, 0, least + self.pitch]);
+        words[SOURCE_PITCH + 1] = (width >> x).max(1) + self.source_pitch;
+        let r = laid_out(&words[..14]).unwrap();
+        let (_, lengths) = needs(&r, &words, u64::from(words[SOURCE_PITCH + 1]));
+        for k in 0..4 { words[LENGTHS + k] = lengths[k] as u32 + self.spare[k]; }
+        words[MADE] = 1;
+        Case { words, source: vec![], lent: [vec![], vec![], vec![]] }
+    }
+}
+
+/// A record that the Rust's check returns.
+fn record(pel: i32, gpu: i32, down: i32, up: i32, full: bool, width: u32, height: u32) -> [u32; 10] {
+    words_of(&check(127, &[pel as u32, gpu as u32, down as u32, up as u32, full.into(), 0, 0, 0, width, height]).unwrap())
+}
+
+/// A value that the number refuses, in place of one that is fine. Says no where none is: a source of which no byte is needed, a frame without levels.
+fn spoil(rng: &mut Random, w: &mut [u32; WORDS], number: u32) -> bool {
+    match number {
+        6 => {
+            let at = rng.pick(&[0, 1, 7, 8, 9]);
+            w[at] = match at { 7 => w[7] + 1, 0 => 3, _ => rng.pick(&[u32::MAX, 16_385, 1 << 31]) };
+        }
+        7 => w[rng.pick(&[10, 11])] = rng.pick(&[2, 3, 31, 32, u32::MAX]),
+        8 | 9 => {
+            let at = if number == 8 { 12 } else { SOURCE_PITCH };
+            let least = if number == 9 { (w[8] >> w[10]).max(1) } else { (if w[4] != 0 { w[8] } else { reduce_dim(w[8] as i32, 1) as u32 } >> w[10]).max(1) };
+            match rng.below(4) { 0 => w[at] = 1, 1 => w[at + 1] = 32_769, 2 => w[at + 1] = 0, _ => w[at + 1] = least - 1 }
+        }
+        _ => {
+            // what is needed by the values that were fine: those of lower numbers are spoilt later
+            let need = needs(&laid_out(&w[..14]).unwrap(), w, long(w, SOURCE_PITCH)).1[number as usize - 10] as u32;
+            if need == 0 { return false; }
+            w[LENGTHS + number as usize - 10] = rng.pick(&[need - 1, need - 1, need / 2, 0]);
+        }
+    }
+    true
+}
+
+/// Spoils the case by these numbers, the highest first. The lowest has to win.
+fn spoilt(rng: &mut Random, c: &mut Case, numbers: &[u32]) -> bool {
+    let mut w = c.words;
+    let mut falling = numbers.to_vec();
+    falling.sort_by(|a, b| b.cmp(a));
+    for &number in &falling {
+        if !spoil(rng, &mut w, number) { return false; }
+    }
+    assert_eq!(judged(&w).err(), falling.last().copied(), "{w:?}");
+    c.words = w;
+    true
+}
+
+/// The source's bytes and the earlier bytes of what is lent.
+fn filled(rng: &mut Random, mut c: Case) -> Case {
+    let wild = rng.below(8);
+    c.source = (0..c.words[LENGTHS]).map(|k| match wild {
+        0 => 0,
+        1 => rng.pick(&[0, 255]),
+        2 => rng.pick(&[0, 1, 127, 128, 254, 255]),
+        3 => (7 * k) as u8,
+        _ => rng.next() as u8,
+    }).collect();
+    c.words[SEED] = if rng.below(8) == 0 { 0 } else { 1 + rng.below(0x7fff_fffe) as u32 };
+    c
+}
+
+/// The earlier bytes written into the case: this byte and, past the written end, that one.
+fn told(mut c: Case, before: u8, beyond: u8) -> Case {
+    let end = laid_out(&c.words[..14]).map_or(0, |r| needs(&r, &c.words, 0).1[1] as usize);
+    c.words[MADE] = 0;
+    c.lent = std::array::from_fn(|k| (0..c.words[LENGTHS + 1 + k] as usize).map(|at| if k == 0 && at >= end { beyond } else { before }).collect());
+    c
+}
+
+/// Sides from 1 to 40 in turn, or more of the small ones.
+fn sides(rng: &mut Random, turn: u64) -> (u32, u32) {
+    if turn % 2 == 0 { return (1 + (turn / 2 % 40) as u32, 1 + (turn / 80 % 40) as u32); }
+    let mut side = || match rng.below(3) { 0 => 1 + rng.below(10) as u32, 1 => 4 + rng.below(16) as u32, _ => 1 + rng.below(40) as u32 };
+    (side(), side())
+}
+
+fn spares(rng: &mut Random) -> [u32; 4] {
+    std::array::from_fn(|_| match rng.below(4) { 0 => 1 + rng.below(80) as u32, 1 => rng.below(3) as u32, _ => 0 })
+}
+
+fn planned(rng: &mut Random, record: [u32; 10]) -> Plan {
+    let least = (if record[4] != 0 { record[8] } else { reduce_dim(record[8] as i32, 1) as u32 }).max(1);
+    let pitch = match rng.below(8) {
+        0..3 => 0,
+        3 => 1,
+        4 => rng.pick(&[2, 5]),
+        5 => least.next_multiple_of(16) - least,
+        6 => 16 * (1 + rng.below(4) as u32),
+        _ => rng.below(100) as u32,
+    };
+    let source_pitch = match rng.below(4) { 0 => rng.below(40) as u32, 1 => rng.pick(&[1, 2, 3]), _ => 0 };
+    Plan { record, shifts: (rng.below(2) as u32, rng.below(2) as u32), pitch, source_pitch, spare: spares(rng) }
+}
+
+/// Pel 1, each down value, full and not.
+fn halving(rng: &mut Random, turn: u64) -> Plan {
+    let (width, height) = if turn % 8 == 7 { (8 + rng.below(122) as u32, 8 + rng.below(122) as u32) } else { sides(rng, turn) };
+    let gpu = rng.below(3) as i32;
+    let r = record(1, gpu, (turn % 7) as i32 - 1, 0, rng.below(2) == 0, width, height);
+    planned(rng, r)
+}
+
+/// Every setting.
+fn whole(rng: &mut Random, turn: u64) -> Plan {
+    let (width, height) = sides(rng, turn);
+    loop {
+        let values = [
+            rng.pick(&[1, 2, 2, 4, 4]),
+            rng.pick(&[0, 0, 0, 1, 2]),
+            rng.pick(&[4, 4, 4, 3, 2, 1, 0, -1, 5, i32::MIN, i32::MAX]) as u32,
+            rng.pick(&[0, 1, 2, 2, 3, -1, i32::MAX]) as u32,
+            u32::from(rng.below(2) == 0),
+            rng.below(2) as u32,
+            u32::from(rng.below(4) == 0),
+            0, width, height,
+        ];
+        if let Ok(r) = check(127, &values) { return planned(rng, words_of(&r)); }
+    }
+}
+
+/// A side of up to 16,384 and a small one, and usual pictures, as far as the replay holds them.
+fn large(rng: &mut Random, turn: u64) -> Plan {
+    loop {
+        let far = rng.pick(&[16_384, 16_384, 16_383, 8_192, 4_099]);
+        let near = 4 + rng.below(28) as u32;
+        let (width, height) = match turn % 4 { 0 => (far, near), 1 => (near, far), 2 => (1920, 1080), _ => rng.pick(&[(1280, 720), (720, 576), (641, 361), (1920, 1080)]) };
+        let pel = rng.pick(&[1, 2, 4]);
+        let full = pel > 1 || rng.below(2) == 0;
+        let r = record(pel, rng.pick(&[0, 0, 1, 2]), rng.pick(&[4, 4, 3, 2, 1]), rng.pick(&[0, 1, 2]), full, width, height);
+        let mut plan = planned(rng, r);
+        if rng.below(4) == 0 { plan.pitch = 32_768 - width; }
+        let c = plan.case();
+        if (0..4).all(|k| c.words[LENGTHS + k] <= HELD[k]) { return plan; }
+    }
+}
+
+/// Cases that went wrong in a draft or look as if they could, each with an exact frame and with 255s past its end.
+fn hard() -> Vec<Case> {
+    let plan = |record: [u32; 10], shifts: (u32, u32), pitch: u32| {
+        let (width, full) = (record[8], record[4] != 0);
+        let least = (if full { width } else { reduce_dim(width as i32, 1) as u32 } >> shifts.0).max(1);
+        Plan { record, shifts, pitch: pitch - least, source_pitch: 0, spare: [0; 4] }
+    };
+    [
+        plan(record(1, 1, 4, 0, false, 16, 24), (1, 0), 10),
+        plan(record(4, 1, 0, 0, true, 4, 25), (1, 0), 9),
+        plan(record(4, 0, 4, 2, true, 5, 11), (1, 0), 2),
+        plan(record(1, 1, 4, 0, true, 15, 14), (0, 1), 26),
+        plan(record(1, 1, 4, 0, false, 15, 14), (0, 1), 26),
+        plan(record(4, 0, 4, 2, true, 4, 4), (0, 1), 5),
+        plan(record(4, 0, 4, 0, true, 4, 4), (1, 1), 3),
+        plan(record(4, 0, 4, 1, true, 4, 4), (1, 1), 3),
+        plan(record(4, 0, 4, 2, true, 4, 4), (1, 1), 3),
+        plan(record(2, 1, 4, 0, true, 20, 20), (0, 0), 20),
+        plan(record(1, 1, 4, 0, false, 8, 8), (0, 0), 4),
+        plan(record(2, 0, 4, 0, true, 17, 4), (0, 0), 17),
+        plan(record(2, 0, 4, 1, true, 17, 4), (0, 0), 17),
+        plan(record(2, 0, 4, 2, true, 17, 4), (0, 0), 17),
+    ].into_iter().flat_map(|mut p| {
+        let exact = p.case();
+        p.spare[1] = 80;
+        [exact, p.case()]
+    }).collect()
+}
+
+const NUMBERS: std::ops::RangeInclusive<u32> = 6..=13;
+
+/// Each number alone, and each two of them.
+fn faults() -> Vec<Vec<u32>> {
+    NUMBERS.flat_map(|a| NUMBERS.filter(move |&b| a <= b).map(move |b| if a == b { vec![a] } else { vec![a, b] })).collect()
+}
+
+/// Kinds: `halving` and `whole`, some with one or two faults; `large`; `kept`, the hard cases, every two faults and then small sizes of both kinds.
+pub fn cases(seed: u64, count: u64, kind: &str) {
+    let mut rng = Random(seed);
+    let rng = &mut rng;
+    let mut out = BufWriter::new(std::io::stdout().lock());
+    let faults = faults();
+    if kind == "kept" {
+        for (k, c) in hard().into_iter().enumerate() {
+            let mut c = filled(rng, c);
+            c.words[WHOLE] = 1;
+            if k < 2 { c.source.fill(0); }
+            write(&mut out, &told(c.clone(), 0, 255));
+            write(&mut out, &c);
+        }
+        for numbers in &faults {
+            let mut c = planned(rng, record(1, 0, 4, 2, numbers.contains(&11), 9, 8)).case();
+            assert!(spoilt(rng, &mut c, numbers));
+            c.words[WHOLE] = 1;
+            write(&mut out, &filled(rng, c));
+        }
+    }
+    for turn in 0..count {
+        let plan = match (kind, turn % 2) {
+            ("halving", _) => halving(rng, turn),
+            ("whole", _) => whole(rng, turn),
+            ("large", _) => large(rng, turn),
+            // odd turns: the sizes are drawn
+            ("kept", 0) => halving(rng, turn + 1),
+            ("kept", _) => whole(rng, turn),
+            _ => panic!("kinds: halving, whole, large, kept"),
+        };
+        let mut c = plan.case();
+        if kind != "large" && rng.below(8) == 0 { spoilt(rng, &mut c, &faults[(turn % faults.len() as u64) as usize]); }
+        c.words[WHOLE] = u32::from(kind != "large" && turn % 32 == 0);
+        let c = filled(rng, c);
+        write(&mut out, &if kind != "large" && turn % 64 == 5 { told(c, 255, 255) } else { c });
+    }
+}
+
+/// The number and the case of the first answer in the file that isn't the Rust's, of the cases on standard input; with it the first byte of the frame that differs, if the case asks for the frame.
+pub fn differs(file: &str) {
+    let mut from = BufReader::new(std::io::stdin().lock());
+    let mut theirs = BufReader::new(std::fs::File::open(file).unwrap());
+    let mut at = 0;
+    while let Some(c) = read(&mut from) {
+        let (_, want) = answer(&c);
+        let mut got = Vec::new();
+        (&mut theirs).take(want.len() as u64).read_to_end(&mut got).unwrap();
+        if want != got {
+            let first = (0..want.len()).find(|&k| got.get(k) != Some(&want[k])).unwrap();
+            println!("case {at}: {:?}", c.words);
+            println!("byte {first} of the answer (4 of the number, 8 each of the sums of frame, spill and scratch, then the frame): {} and not {:?}", want[first], got.get(first));
+            return;
+        }
+        at += 1;
+    }
+    println!("all {at} answers are the Rust's");
+}
+
+/// Case number `at` of those on standard input, now with the whole frame asked for.
+pub fn pick(at: u64) {
+    let mut from = BufReader::new(std::io::stdin().lock());
+    for _ in 0..at { read(&mut from).unwrap(); }
+    let mut c = read(&mut from).unwrap();
+    c.words[WHOLE] = 1;
+    write(&mut std::io::stdout().lock(), &c);
+}
