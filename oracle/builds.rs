@@ -4,7 +4,7 @@
 use crate::layout::laid_out;
 use crate::met::Met;
 use crate::random::Random;
-use crate::settings::{check, words_of};
+use crate::settings::{accept, check, words_of};
 use crate::super_build as sb;
 use crate::super_opts::{SuperOpts, reduce_dim};
 use std::io::{BufReader, BufWriter, Read, Write};
@@ -155,8 +155,16 @@ fn record(pel: i32, gpu: i32, down: i32, up: i32, full: bool, width: u32, height
 fn spoil(rng: &mut Random, w: &mut [u32; WORDS], number: u32) -> bool {
     match number {
         6 => {
-            let at = rng.pick(&[0, 1, 7, 8, 9]);
-            w[at] = match at { 7 => w[7] + 1, 0 => 3, _ => rng.pick(&[u32::MAX, 16_385, 1 << 31]) };
+            let fine = *w;
+            while accept(&w[..10]).is_ok() {
+                *w = fine;
+                let at = rng.below(10) as usize;
+                w[at] = match at {
+                    4..7 => 1 - w[at],
+                    7 => rng.pick(&[w[7] + 1, w[7].wrapping_sub(1)]),
+                    _ => rng.pick(&[0, 1, 2, 3, 5, 16_385, u32::MAX, 1 << 31]),
+                };
+            }
         }
         7 => w[rng.pick(&[10, 11])] = rng.pick(&[2, 3, 31, 32, u32::MAX]),
         8 | 9 => {
@@ -326,8 +334,8 @@ pub fn cases(seed: u64, count: u64, kind: &str) {
             write(&mut out, &told(c.clone(), 0, 255));
             write(&mut out, &c);
         }
-        for numbers in &faults {
-            let mut c = planned(rng, record(1, 0, 4, 2, numbers.contains(&11), 9, 8)).case();
+        for (numbers, full) in faults.iter().flat_map(|f| [(f, true), (f, false)]) {
+            let mut c = planned(rng, record(1, 0, 4, 2, full, 9, 8)).case();
             assert!(spoilt(rng, &mut c, numbers));
             c.words[WHOLE] = 1;
             write(&mut out, &filled(rng, c));
