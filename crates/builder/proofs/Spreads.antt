@@ -3,7 +3,8 @@ use mathlib.Core.Path.{_≡_, refl, ap, _∙_}
 use mathlib.Core.List.{List, _++_}
 use Prim.Native.Nat.{ℕ, _+_, _*_, _-_, _≤_, _<_}
 use native.Mathlib.Omega.{arith}
-use lib.ListN.{length, length-append}
+use lib.ListN.{length, take, length-append}
+use lib.Seq.{length-take-le}
 use Rattle.filters.specs.declared.halving.ReduceFilter.{ReduceFilter}
 use Rattle.filters.specs.Halve.{Apart, headed, reducedApart}
 use Rattle.filters.proofs.Pairs.{reduced-apart}
@@ -21,6 +22,17 @@ spread-row t y h p fits lt = omega (arith, row-in y h (2 * p) lt)
 -- and where it closes up to
 pub closed-row : (t y h p : ℕ) {len : ℕ} → t + h * (2 * p) ≤ len → y < h → t + y * p + p ≤ len
 closed-row t y h p fits lt = omega (arith, row-in y h p lt)
+
+pub spread-at : {n sp len spill scratch p y : ℕ} {t : Region} → Spread n sp len spill scratch p t → y < t .height → t .offset + y * (2 * p) + 2 * p ≤ len + spill
+spread-at {p = p} {y = y} {t = t} s lt = spread-row (t .offset) y (t .height) p (s .beyond) lt
+
+-- scratch X holds a row before it is halved
+pub spread-line : {n sp len spill p : ℕ} {t : Region} (X : List ℕ) → Spread n sp len spill (length X) p t → length (take (2 * t .width) X) ≡ 2 * t .width
+spread-line {t = t} X s = length-take-le (2 * t .width) X (omega (arith, s .fits, s .room))
+
+-- and scratch that came back as X holds it when it is halved
+pub half-line : (w : ℕ) (X : List ℕ) {n : ℕ} → length X ≡ n → 2 * w ≤ n → length (take w X) ≡ w
+half-line w X same fits = length-take-le w X (omega arith)
 
 pub spread-same : {n sp len spill scratch len' spill' scratch' p : ℕ} {t : Region} → Spread n sp len spill scratch p t → len' ≡ len → spill' ≡ spill → scratch' ≡ scratch → Spread n sp len' spill' scratch' p t
 spread-same s e f g = rw (e, f, g) s

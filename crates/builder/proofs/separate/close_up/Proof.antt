@@ -1,6 +1,8 @@
 -- `close_up` meets its contract. The loop has closed up the rows passed. Assumes nothing.
 use Prim.Native.Nat.{_+_, _*_, _-_, _≤_}
 use native.Mathlib.Omega.{arith}
+use lib.ListN.{length}
+use denote.Ref.{now}
 use Rattle.builder.specs.Canvas.{copyRun}
 use Rattle.builder.specs.Halving.{closeUp}
 use Rattle.builder.proofs.Runs.{walked-whole}
@@ -15,40 +17,39 @@ Inv-loop frame₀ spill₀ scratch₀ pitch target height y₀ frame spill scrat
 abbrev μ-loop : tie.MeasureT-loop
 μ-loop frame₀ spill₀ scratch₀ pitch target height y₀ frame spill scratch y = height - y
 
+-- the row, and where it closes up to
+inside : (c : tie.In-loop Inv-loop μ-loop) →
+    let a = c .before .before .before .before .before .args in
+    let y = c .before .loop .y in
+    (a .target .offset + y * (2 * a .pitch) + 2 * a .pitch ≤ length (now (a .frame)) + length (now (a .spill))) × (a .target .offset + y * a .pitch + a .pitch ≤ length (now (a .frame)) + length (now (a .spill)))
+inside c =
+    let s = c .before .before .before .before .before in
+    let a = s .args in
+    let y = c .before .loop .y in
+    (spread-row (a .target .offset) y (a .target .height) (a .pitch) (s .pre .1) (c .loop-test .taken), closed-row (a .target .offset) y (a .target .height) (a .pitch) (s .pre .1) (c .loop-test .taken))
+
 loop-holds : tie.Need-loop-holds Inv-loop μ-loop
 loop-holds c = (omega arith, passed-none)
 
 mul-from : tie.Need-mul-from Inv-loop μ-loop
-mul-from c =
-    let s = c .before .before .before .before .before in
-    omega (arith, spread-row (s .args .target .offset) (c .before .loop .y) (s .args .target .height) (s .args .pitch) (s .pre .1) (c .loop-test .taken))
+mul-from c = omega (arith, inside c)
 
 mul-from-2 : tie.Need-mul-from-2 Inv-loop μ-loop
-mul-from-2 c =
-    let s = c .before .before .before .before .before in
-    omega (arith, spread-row (s .args .target .offset) (c .before .loop .y) (s .args .target .height) (s .args .pitch) (s .pre .1) (c .loop-test .taken))
+mul-from-2 c = omega (arith, inside c)
 
 add-from : tie.Need-add-from Inv-loop μ-loop
-add-from c =
-    let s = c .before .before .before .before .before .before in
-    omega (arith, spread-row (s .args .target .offset) (c .before .before .loop .y) (s .args .target .height) (s .args .pitch) (s .pre .1) (c .before .loop-test .taken))
+add-from c = omega (arith, inside (c .before))
 
 mul-to : tie.Need-mul-to Inv-loop μ-loop
-mul-to c =
-    let s = c .before .before .before .before .before .before in
-    omega (arith, closed-row (s .args .target .offset) (c .before .before .loop .y) (s .args .target .height) (s .args .pitch) (s .pre .1) (c .before .loop-test .taken))
+mul-to c = omega (arith, inside (c .before))
 
 add-to : tie.Need-add-to Inv-loop μ-loop
-add-to c =
-    let s = c .before .before .before .before .before .before .before in
-    omega (arith, closed-row (s .args .target .offset) (c .before .before .before .loop .y) (s .args .target .height) (s .args .pitch) (s .pre .1) (c .before .before .loop-test .taken))
+add-to c = omega (arith, inside (c .before .before))
 
 close-row-requires : tie.Need-close-row-requires Inv-loop μ-loop
 close-row-requires c κs =
-    let s = c .before .before .before .before .before .before .before .before .before .before in
-    let l = c .before .before .before .before .before .before .loop in
-    let i = l .inv .1 in
-    (omega (arith, s .pre .0, i .scratch), omega (arith, i .frame, i .spill, closed-row (s .args .target .offset) (l .y) (s .args .target .height) (s .args .pitch) (s .pre .1) (c .before .before .before .before .before .loop-test .taken)))
+    let i = c .before .before .before .before .before .before .loop .inv .1 in
+    (omega (arith, c .before .before .before .before .before .before .before .before .before .before .pre .0, i .scratch), omega (arith, i .frame, i .spill, inside (c .before .before .before .before .before)))
 
 add-y : tie.Need-add-y Inv-loop μ-loop
 add-y c = omega arith

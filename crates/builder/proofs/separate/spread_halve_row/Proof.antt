@@ -3,11 +3,10 @@ use mathlib.Core.Path.{sym, ap, _∙_}
 use mathlib.Core.List.{_++_}
 use Prim.Native.Nat.{ℕ}
 use native.Mathlib.Omega.{arith}
-use lib.Seq.{length-take-le}
 use denote.Ref.{now}
 use Rattle.filters.specs.Halve.{reducedApart}
 use Rattle.builder.specs.Canvas.{put}
-use Rattle.builder.proofs.Spreads.{halved-run}
+use Rattle.builder.proofs.Spreads.{half-line, halved-run}
 use borrow.Author.Needs.{needs}
 use Rattle.builder.proofs.separate.spread_halve_row.Statement.{statement}
 use Rattle.builder.proofs.separate.spread_halve_row.Tie as tie
@@ -22,20 +21,20 @@ slice-aggregate-row : tie.Need-slice-aggregate-row
 slice-aggregate-row c =
     let s = c .before .before .before .before .before .before .before .before .before .before .before .before .before .before in
     let k = c .before .before .before .before .before .take-row in
-    sym (length-take-le (s .args .w) (k .last .1 .1 .1 .0) (omega (arith, k .kept .1 .1 .1 .0, s .pre .2)))
+    sym (half-line (s .args .w) (k .last .1 .1 .1 .0) (k .kept .1 .1 .1 .0) (s .pre .2))
 
 reduce-row-requires : tie.Need-reduce-row-requires
 reduce-row-requires c κs =
     let s = c .before .before .before .before .before .before .before .before .before .before .before .before .before .before .before .before in
     let k = c .before .before .before .before .before .before .before .take-row in
-    let e = length-take-le (s .args .w) (k .last .1 .1 .1 .0) (omega (arith, k .kept .1 .1 .1 .0, s .pre .2)) in
+    let e = half-line (s .args .w) (k .last .1 .1 .1 .0) (k .kept .1 .1 .1 .0) (s .pre .2) in
     (omega (arith, e, s .pre .0), omega (arith, e, k .kept .0, s .pre .3))
 
 store-requires : tie.Need-store-requires
 store-requires c κs =
     let s = c .before .before .before .before .before .before .before .before .before .before .before .before .before .before .before .before .before .before .before .before .before .before in
     let k = c .before .before .before .before .before .before .before .before .before .before .before .before .before .take-row in
-    let e = length-take-le (s .args .w) (k .last .1 .1 .1 .0) (omega (arith, k .kept .1 .1 .1 .0, s .pre .2)) in
+    let e = half-line (s .args .w) (k .last .1 .1 .1 .0) (k .kept .1 .1 .1 .0) (s .pre .2) in
     omega (arith, c .before .before .before .before .before .reduce-row .kept .1 .0, e, s .pre .1)
 
 same-length : tie.Need-same-length
@@ -56,7 +55,7 @@ returns c =
     let a = s .args in
     let d = now (a .frame) ++ now (a .spill) in
     let k = c .before .before .before .before .before .before .before .before .before .before .before .before .before .before .before .before .before .before .before .before .take-row in
-    let e = length-take-le (a .w) (k .last .1 .1 .1 .0) (omega (arith, k .kept .1 .1 .1 .0, s .pre .2)) in
+    let e = half-line (a .w) (k .last .1 .1 .1 .0) (k .kept .1 .1 .1 .0) (s .pre .2) in
     c .before .before .before .before .before .before .store .ensures
     ∙ ap (put d (a .at)) (c .before .before .before .before .before .before .before .before .before .before .before .before .reduce-row .ensures ∙ ap (λ (n : ℕ). reducedApart (a .filter) n (k .last .0)) e)
     ∙ halved-run (a .filter) (a .w) (a .at) d (s .pre .0) (k .ensures)

@@ -1,8 +1,9 @@
 -- `spread_horizontal` meets its contract. The loop has halved the rows passed. Assumes nothing.
 use mathlib.Core.Path.{_≡_, refl, _∙_}
-use Prim.Native.Nat.{_+_, _*_, _-_}
+use Prim.Native.Nat.{_+_, _*_, _-_, _≤_}
 use native.Mathlib.Omega.{arith}
 use lib.ListN.{length}
+use denote.Ref.{now}
 use Rattle.builder.specs.Halving.{halveRun, horizontalRows}
 use Rattle.builder.proofs.Runs.{walked-whole}
 use Rattle.builder.proofs.Spreads.{spread-row, Passed, passed-none, passed-more}
@@ -16,34 +17,31 @@ Inv-loop filter frame₀ spill₀ scratch₀ split₀ pitch target height y₀ f
 abbrev μ-loop : tie.MeasureT-loop
 μ-loop filter frame₀ spill₀ scratch₀ split₀ pitch target height y₀ frame spill scratch split y = height - y
 
+inside : (c : tie.In-loop Inv-loop μ-loop) →
+    let a = c .before .before .before .before .before .before .args in
+    a .target .offset + c .before .loop .y * (2 * a .pitch) + 2 * a .pitch ≤ length (now (a .frame)) + length (now (a .spill))
+inside c =
+    let s = c .before .before .before .before .before .before in
+    spread-row (s .args .target .offset) (c .before .loop .y) (s .args .target .height) (s .args .pitch) (s .pre .4) (c .loop-test .taken)
+
 loop-holds : tie.Need-loop-holds Inv-loop μ-loop
 loop-holds c = (passed-none, refl)
 
 mul-at : tie.Need-mul-at Inv-loop μ-loop
-mul-at c =
-    let s = c .before .before .before .before .before .before in
-    omega (arith, spread-row (s .args .target .offset) (c .before .loop .y) (s .args .target .height) (s .args .pitch) (s .pre .4) (c .loop-test .taken))
+mul-at c = omega (arith, inside c)
 
 mul-at-2 : tie.Need-mul-at-2 Inv-loop μ-loop
-mul-at-2 c =
-    let s = c .before .before .before .before .before .before in
-    omega (arith, spread-row (s .args .target .offset) (c .before .loop .y) (s .args .target .height) (s .args .pitch) (s .pre .4) (c .loop-test .taken))
+mul-at-2 c = omega (arith, inside c)
 
 add-at : tie.Need-add-at Inv-loop μ-loop
-add-at c =
-    let s = c .before .before .before .before .before .before .before in
-    omega (arith, spread-row (s .args .target .offset) (c .before .before .loop .y) (s .args .target .height) (s .args .pitch) (s .pre .4) (c .before .loop-test .taken))
+add-at c = omega (arith, inside (c .before))
 
 spread-halve-row-requires : tie.Need-spread-halve-row-requires Inv-loop μ-loop
 spread-halve-row-requires c κs =
     let s = c .before .before .before .before .before .before .before .before .before .before .before in
     let l = c .before .before .before .before .before .before .loop in
-    let i = l .inv .0 in (
-      s .pre .0,
-      omega (arith, i .frame, i .spill, s .pre .1, spread-row (s .args .target .offset) (l .y) (s .args .target .height) (s .args .pitch) (s .pre .4) (c .before .before .before .before .before .loop-test .taken)),
-      omega (arith, i .scratch, s .pre .1, s .pre .2),
-      omega (arith, l .inv .1, s .pre .3),
-    )
+    let i = l .inv .0 in
+    (s .pre .0, omega (arith, i .frame, i .spill, s .pre .1, inside (c .before .before .before .before .before)), omega (arith, i .scratch, s .pre .1, s .pre .2), omega (arith, l .inv .1, s .pre .3))
 
 add-y : tie.Need-add-y Inv-loop μ-loop
 add-y c = omega arith

@@ -3,11 +3,10 @@ use mathlib.Core.Path.{sym, ap, _∙_}
 use mathlib.Core.List.{_++_}
 use Prim.Native.Nat.{ℕ, _+_, _*_}
 use native.Mathlib.Omega.{arith}
-use lib.Seq.{length-take-le}
 use denote.Ref.{now}
 use Rattle.builder.specs.Canvas.{put}
 use Rattle.builder.specs.Halving.{wholeOf, verticalLine}
-use Rattle.builder.proofs.Spreads.{spread-row}
+use Rattle.builder.proofs.Spreads.{spread-at, spread-line}
 use borrow.Author.Needs.{needs}
 use Rattle.builder.proofs.separate.spread_vertical_row.Statement.{statement}
 use Rattle.builder.proofs.separate.spread_vertical_row.Tie as tie
@@ -19,35 +18,26 @@ slice-relend-prefix-line : tie.Need-slice-relend-prefix-line
 slice-relend-prefix-line c = search needs
 
 slice-aggregate-line : tie.Need-slice-aggregate-line
-slice-aggregate-line c = let s = c .before .before .before .before .before .before in sym (length-take-le (2 * s .args .target .width) (now (s .args .scratch)) (omega (arith, s .pre .0 .fits, s .pre .0 .room)))
+slice-aggregate-line c = let s = c .before .before .before .before .before .before in sym (spread-line (now (s .args .scratch)) (s .pre .0))
 
 vertical-line-requires : tie.Need-vertical-line-requires
 vertical-line-requires c κs =
     let s = c .before .before .before .before .before .before .before in
-    let e = length-take-le (2 * s .args .target .width) (now (s .args .scratch)) (omega (arith, s .pre .0 .fits, s .pre .0 .room)) in
-    (record { rows = omega (arith, e, s .pre .0 .source .rows) }, s .pre .1)
+    (record { rows = omega (arith, spread-line (now (s .args .scratch)) (s .pre .0), s .pre .0 .source .rows) }, s .pre .1)
 
 mul-store : tie.Need-mul-store
 mul-store c = search needs
 
 mul-store-2 : tie.Need-mul-store-2
-mul-store-2 c =
-    let s = c .before .before .before .before .before .before .before .before .before .before .before .before in
-    let a = s .args in
-    omega (arith, spread-row (a .target .offset) (a .y) (a .target .height) (a .pitch) (s .pre .0 .beyond) (s .pre .1))
+mul-store-2 c = let s = c .before .before .before .before .before .before .before .before .before .before .before .before in omega (arith, spread-at (s .pre .0) (s .pre .1))
 
 add-store : tie.Need-add-store
-add-store c =
-    let s = c .before .before .before .before .before .before .before .before .before .before .before .before .before in
-    let a = s .args in
-    omega (arith, spread-row (a .target .offset) (a .y) (a .target .height) (a .pitch) (s .pre .0 .beyond) (s .pre .1))
+add-store c = let s = c .before .before .before .before .before .before .before .before .before .before .before .before .before in omega (arith, spread-at (s .pre .0) (s .pre .1))
 
 store-requires : tie.Need-store-requires
 store-requires c κs =
     let s = c .before .before .before .before .before .before .before .before .before .before .before .before .before .before in
-    let a = s .args in
-    let e = length-take-le (2 * a .target .width) (now (a .scratch)) (omega (arith, s .pre .0 .fits, s .pre .0 .room)) in
-    omega (arith, c .before .before .before .before .before .before .vertical-line .kept .1 .0, e, s .pre .0 .fits, spread-row (a .target .offset) (a .y) (a .target .height) (a .pitch) (s .pre .0 .beyond) (s .pre .1))
+    omega (arith, c .before .before .before .before .before .before .vertical-line .kept .1 .0, spread-line (now (s .args .scratch)) (s .pre .0), s .pre .0 .fits, spread-at (s .pre .0) (s .pre .1))
 
 same-length : tie.Need-same-length
 same-length c = search needs
@@ -62,10 +52,9 @@ returns : tie.Need-returns
 returns c =
     let s = c .before .before .before .before .before .before .before .before .before .before .before .before .before .before .before .before .before .before .before .before .before in
     let a = s .args in
-    let e = length-take-le (2 * a .target .width) (now (a .scratch)) (omega (arith, s .pre .0 .fits, s .pre .0 .room)) in
     c .before .before .before .before .before .before .store .ensures
     ∙ ap (put (now (a .frame) ++ now (a .spill)) (a .target .offset + a .y * (2 * a .pitch)))
-    (c .before .before .before .before .before .before .before .before .before .before .before .before .before .vertical-line .ensures ∙ ap (λ (n : ℕ). verticalLine (a .filter) (wholeOf (a .filter) n) n (a .target .height) (now (a .src)) 0 (a .sp) (a .y)) e)
+    (c .before .before .before .before .before .before .before .before .before .before .before .before .before .vertical-line .ensures ∙ ap (λ (n : ℕ). verticalLine (a .filter) (wholeOf (a .filter) n) n (a .target .height) (now (a .src)) 0 (a .sp) (a .y)) (spread-line (now (a .scratch)) (s .pre .0)))
 
 pub spread-vertical-row-spec : {M : Type 1} → statement M
 spread-vertical-row-spec =
