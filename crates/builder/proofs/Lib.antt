@@ -7,6 +7,7 @@
 --     Halves     a row of it halved in its place, and a row of the fused cubic
 --     Refined    a row stored in the list that it is read of; the planes of level 0
 --     Spreads    level 1 from the source plane: loops over the rows of a frame and its spill
+--     Prepared   a build that isn't refused: what its stages need is there, and those inside the frame don't see the spill
 --     Known      an answer is known by its number and value
 --     ByHand     document 01's examples, computed
 --     Unique     no second outcome meets a public call's contract
@@ -19,6 +20,7 @@ pub mod Lines
 pub mod Halves
 pub mod Refined
 pub mod Spreads
+pub mod Prepared
 pub mod Known
 pub mod ByHand
 pub mod Unique

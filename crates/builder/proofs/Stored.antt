@@ -75,7 +75,7 @@ two-left true true = refl
 two-left true false = refl
 two-left false u = refl
 
-twice : (h p : ℕ) → h * (2 * p) ≡ h * p + h * p
+pub twice : (h p : ℕ) → h * (2 * p) ≡ h * p + h * p
 twice h p = sym (mul-assoc h 2 p) ∙ ap (λ (n : ℕ). n * p) (mul-comm h 2) ∙ mul-assoc 2 h p ∙ omega arith
 
 module _ (q : Layout) (a : Allowed q) where

@@ -8,9 +8,11 @@
 //     vertical   a row of a later level before it is halved
 //     halving    later levels from the level before, inside the frame
 //     separate   level 1 from the source plane, where level 0 isn't stored
+//     later      later levels, each in its way
 //     refining   the planes of level 0 between its places
 mod canvas;
 mod halving;
+mod later;
 pub mod layout;
 mod lent;
 mod levels;
