@@ -62,11 +62,10 @@ fn horizontal_rows(
     filter: ReduceFilter,
     frame: &mut [u8],
     scratch: &mut [u8],
-    base: usize,
     pitch: usize,
     target: Region,
 )
-    requires { ⌜ Within (length (now frame)) (length (now scratch)) base pitch target ⌝ }
+    requires { ⌜ (1 ≤ target .width) × (2 * target .width ≤ pitch) × (target .offset + target .height * pitch ≤ length (now frame)) × (2 * target .width + 2 ≤ length (now scratch)) ⌝ }
     ensures { λ r. ⌜ now (frame .exit) ≡ horizontalRows filter target pitch (now (frame .entry)) ⌝ }
 {
     let height = target.height;
@@ -88,7 +87,7 @@ pub fn reduce_within(
     ensures { λ r. ⌜ now (frame .exit) ≡ fromStored filter base pitch target (now (frame .entry)) ⌝ }
 {
     vertical_rows(filter, frame, scratch, base, pitch, target);
-    horizontal_rows(filter, frame, scratch, base, pitch, target);
+    horizontal_rows(filter, frame, scratch, pitch, target);
 }
 
 fn fused_row(

@@ -4,31 +4,30 @@ use Prim.Native.Nat.{_+_, _*_, _-_}
 use native.Mathlib.Omega.{arith}
 use lib.ListN.{length}
 use Rattle.builder.specs.Halving.{halveRun, horizontalRows}
-use Rattle.builder.proofs.Runs.{Walked, walked-none, walked-more, walked-whole}
-use Rattle.builder.proofs.Halves.{row-within}
+use Rattle.builder.proofs.Runs.{row-fits, Walked, walked-none, walked-more, walked-whole}
 use Rattle.builder.proofs.halving.horizontal_rows.Statement.{statement}
 use Rattle.builder.proofs.halving.horizontal_rows.Tie as tie
 
 abbrev Inv-loop : tie.InvT-loop
-Inv-loop filter frame₀ scratch₀ base pitch target height y₀ frame scratch y = Walked (λ i. halveRun filter (target .width) (target .offset + i * pitch)) frame₀ frame height y × (length scratch ≡ length scratch₀)
+Inv-loop filter frame₀ scratch₀ pitch target height y₀ frame scratch y = Walked (λ i. halveRun filter (target .width) (target .offset + i * pitch)) frame₀ frame height y × (length scratch ≡ length scratch₀)
 
 abbrev μ-loop : tie.MeasureT-loop
-μ-loop filter frame₀ scratch₀ base pitch target height y₀ frame scratch y = height - y
+μ-loop filter frame₀ scratch₀ pitch target height y₀ frame scratch y = height - y
 
 loop-holds : tie.Need-loop-holds Inv-loop μ-loop
 loop-holds c = (walked-none, refl)
 
 mul-at : tie.Need-mul-at Inv-loop μ-loop
-mul-at c = omega (arith, row-within (c .before .before .before .before .pre) (c .loop-test .taken))
+mul-at c = omega (arith, row-fits _ _ _ _ _ _ (c .before .before .before .before .pre .1) (c .before .before .before .before .pre .2) (c .loop-test .taken))
 
 add-at : tie.Need-add-at Inv-loop μ-loop
-add-at c = omega (arith, row-within (c .before .before .before .before .before .pre) (c .before .loop-test .taken))
+add-at c = omega (arith, row-fits _ _ _ _ _ _ (c .before .before .before .before .before .pre .1) (c .before .before .before .before .before .pre .2) (c .before .loop-test .taken))
 
 halve-row-requires : tie.Need-halve-row-requires Inv-loop μ-loop
 halve-row-requires c κs =
     let s = c .before .before .before .before .before .before .before in
     let l = c .before .before .before .before .loop in
-    (s .pre .some, omega (arith, row-within (s .pre) (c .before .before .before .loop-test .taken), s .pre .fits, l .inv .0 .same), omega (arith, s .pre .fits, s .pre .room, l .inv .1))
+    (s .pre .0, omega (arith, row-fits _ _ _ _ _ _ (s .pre .1) (s .pre .2) (c .before .before .before .loop-test .taken), l .inv .0 .same), omega (arith, s .pre .3, l .inv .1))
 
 add-y : tie.Need-add-y Inv-loop μ-loop
 add-y c = omega arith
