@@ -1,7 +1,7 @@
 -- Levels that are stored: none is smaller than 2 by 2; which of them are fused; and what the spill has to hold. Assumes nothing.
 use mathlib.Core.Path.{_≡_, refl, sym, ap, subst, _∙_}
 use mathlib.Core.Bool.{Bool, true, false, cond, _&&_, _||_}
-use mathlib.Core.Logic.{_⊎_, ⊎-elim}
+use mathlib.Core.Logic.{_⊎_, inl, inr, ⊎-elim}
 use Prim.Native.Nat.{ℕ, zero, suc, _+_, _*_, _-_, _/_, _%_, _^_, _≤_, _<_}
 use native.Mathlib.Nat.{mul-assoc, mul-comm, mul-le-mul-right, mul-add-mod-self-left}
 use native.Mathlib.Numerals.{add-one}
@@ -46,15 +46,19 @@ halved-some d zero le h = omega arith
 halved-some d (suc zero) le h = omega arith
 halved-some d (suc (suc s)) le h = absurd (omega arith)
 
-pel-some : (q : Layout) → accepted (q .opts) ≡ true → 1 ≤ pelOf (q .opts)
-pel-some q e =
+-- an accepted pel is 1, 2 or 4
+pub pel-cases : (q : Layout) → accepted (q .opts) ≡ true → ((pelOf (q .opts) ≡ 1) ⊎ (pelOf (q .opts) ≡ 2)) ⊎ (pelOf (q .opts) ≡ 4)
+pel-cases q e =
     let z = q .opts .pel in
     let is : (n : ℕ) → isNat z n ≡ true → toNat z ≡ n = λ n h. ap toNat (is-nat-pos z n h) in
     ⊎-elim
     (λ (a : (isNat z 1 || isNat z 2) ≡ true).
-    ⊎-elim (λ (b : isNat z 1 ≡ true). omega (arith, is 1 b)) (λ (b : isNat z 2 ≡ true). omega (arith, is 2 b)) (or-cases (isNat z 1) (isNat z 2) a))
-    (λ (a : isNat z 4 ≡ true). omega (arith, is 4 a))
+    inl (⊎-elim (λ (b : isNat z 1 ≡ true). inl (is 1 b)) (λ (b : isNat z 2 ≡ true). inr (is 2 b)) (or-cases (isNat z 1) (isNat z 2) a)))
+    (λ (a : isNat z 4 ≡ true). inr (is 4 a))
     (or-cases (isNat z 1 || isNat z 2) (isNat z 4) (sound (q .opts) (fine (q .opts) e .none) .pel))
+
+pel-some : (q : Layout) → accepted (q .opts) ≡ true → 1 ≤ pelOf (q .opts)
+pel-some q e = ⊎-elim (⊎-elim (λ a. omega (arith, a)) (λ a. omega (arith, a))) (λ a. omega (arith, a)) (pel-cases q e)
 
 -- ---- tests
 doubled : (w : ℕ) → 2 * w % 8 ≡ 2 * (w % 4)
@@ -99,7 +103,7 @@ module _ (q : Layout) (a : Allowed q) where
       s
   twice-fits (suc l) s = omega (arith, width-half q a (suc l), width-later q a l)
 
-  stored-some : (l : ℕ) → (q .opts .full ≡ true) ⊎ (1 ≤ l) → 1 ≤ storedAt q l
+  pub stored-some : (l : ℕ) → (q .opts .full ≡ true) ⊎ (1 ≤ l) → 1 ≤ storedAt q l
   stored-some zero s =
       ⊎-elim
       (λ (f : q .opts .full ≡ true).

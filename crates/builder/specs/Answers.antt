@@ -14,7 +14,7 @@ use Rattle.builder.specs.declared.layout.Ended.{Ended}
 use Rattle.builder.specs.declared.layout.Ended.the-variants.{End, Refused as EndRefused}
 use Rattle.builder.specs.Layout.{levelsOf, widthAt, rowStart, regionOr, noRegion, writtenEnd}
 use Rattle.builder.specs.Margins.{cleared}
-use Rattle.builder.specs.Numbers.{layoutNo, frameNo, rowNo}
+use Rattle.builder.specs.Numbers.{layoutNo, frameNo, rowNo, buildNo}
 use Rattle.builder.specs.Build.{builtFrame}
 
 -- the regions of the levels, in columns
@@ -48,7 +48,11 @@ rowPart q f l k y = cond (eqb (rowNo q (length f) l k y) 0) (take (widthAt q l) 
 abbrev pub clearAnswer : Layout → List ℕ → Answer (List ℕ)
 clearAnswer q f = complete (frameNo q (length f)) (cleared q f) f
 
--- building, with the frame that it leaves
+-- building, by what it is lent
+abbrev pub planeNo : Layout → List ℕ → ℕ → List ℕ → List ℕ → List ℕ → ℕ
+planeNo q src sp frame spill scratch = buildNo q (length src) sp (length frame) (length spill) (length scratch)
+
+-- by its number, with the frame that it leaves
 abbrev pub buildAnswer : ℕ → Layout → List ℕ → ℕ → List ℕ → Answer (List ℕ)
 buildAnswer n q src sp f = complete n (builtFrame q src sp f) f
 

@@ -10,6 +10,8 @@
 //     separate   level 1 from the source plane, where level 0 isn't stored
 //     later      later levels, each in its way
 //     refining   the planes of level 0 between its places
+//     build      a plane, built whole
+pub mod build;
 mod canvas;
 mod halving;
 mod later;
