@@ -19,6 +19,8 @@ use Rattle.builder.proofs.rows.row.Kinds as row-kinds
 use Rattle.builder.proofs.rows.row.Reads as row-reads
 use Rattle.builder.proofs.margins.clear_margins.Kinds as clear-margins-kinds
 use Rattle.builder.proofs.margins.clear_margins.Reads as clear-margins-reads
+use Rattle.builder.proofs.build.build_plane.Kinds as build-plane-kinds
+use Rattle.builder.proofs.build.build_plane.Reads as build-plane-reads
 
 pub level-regions-unique : (κs : Lfts 0) (x : Dens κs level-regions-kinds.ps) (r s : resT level-regions-kinds.r κs .Denot) (e f : AtExit (endedOf 0 level-regions-kinds.ps level-regions-kinds.r) κs) → level-regions-reads.Post κs x r e → level-regions-reads.Post κs x s f → r ≡ s
 level-regions-unique κs x r s e f p q = laid-known r s (p ∙ sym q)
@@ -37,3 +39,8 @@ row-unique κs x r s e f p q = p ∙ sym q
 pub clear-margins-unique : (κs : Lfts 1) (x : Dens κs clear-margins-kinds.ps) (r s : resT clear-margins-kinds.r κs .Denot) (e f : AtExit (endedOf 1 clear-margins-kinds.ps clear-margins-kinds.r) κs) → clear-margins-reads.Post κs x r e → clear-margins-reads.Post κs x s f → (r ≡ s) × (now (e .0) ≡ now (f .0))
 clear-margins-unique κs x r s e f p q =
     (tested-known r s (ap (λ (a : Answer (List ℕ)). a .no) (p ∙ sym q)), ap (λ (a : Answer (List ℕ)). a .value) (p ∙ sym q))
+
+-- the answer, the frame, and what spill and scratch are left as
+pub build-plane-unique : (κs : Lfts 4) (x : Dens κs build-plane-kinds.ps) (r s : resT build-plane-kinds.r κs .Denot) (e f : AtExit (endedOf 4 build-plane-kinds.ps build-plane-kinds.r) κs) → build-plane-reads.Post κs x r e → build-plane-reads.Post κs x s f → (r ≡ s) × (now (e .0) ≡ now (f .0)) × (now (e .1 .0) ≡ now (f .1 .0)) × (now (e .1 .1 .0) ≡ now (f .1 .1 .0))
+build-plane-unique κs x r s e f p q =
+    (tested-known r s (ap (λ (a : Answer (List ℕ)). a .no) (p .0 ∙ sym (q .0))), ap (λ (a : Answer (List ℕ)). a .value) (p .0 ∙ sym (q .0)), ap (λ (a : Answer (List ℕ)). a .value) (p .1 ∙ sym (q .1)), ap (λ (a : Answer (List ℕ)). a .value) (p .2 ∙ sym (q .2)))
