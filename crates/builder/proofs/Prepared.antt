@@ -153,7 +153,7 @@ line-aside f whole n h c S base sp y le either s lt = go (isEdge f y h) refl
         ∙ ap (meansOf n (fetch (c ++ S) at n)) (fetch-left c S (at + sp) n (edge-reach s lt))
     go false e = let r = inner-reach f s lt e in inner-aside f n c S (base + y * (2 * sp)) sp (r .0) (r .1) whole le either
 
-whole-or : (f : ReduceFilter) (n : ℕ) → (wholeOf f n ≤ n) × ((wholeOf f n ≡ n) ⊎ (lastRow f ≡ 3))
+pub whole-or : (f : ReduceFilter) (n : ℕ) → (wholeOf f n ≤ n) × ((wholeOf f n ≡ n) ⊎ (lastRow f ≡ 3))
 whole-or Average n = (omega arith, inl refl)
 whole-or Bilinear n = (omega arith, inl refl)
 whole-or Quadratic n = (omega arith, inl refl)

@@ -1,8 +1,8 @@
--- Laws of the canvas: what is read of two lists one after the other, and what is stored in them; then `steps`; last stages that stay inside the first list. Assumes nothing.
+-- Laws of the canvas: what is read of two lists one after the other, and what is stored in them; then `steps`; stages that keep a list's length; last those that stay inside the first of two. Assumes nothing.
 use mathlib.Core.Path.{_≡_, refl, sym, ap, _∙_, subst}
 use mathlib.Core.List.{List, [], _++_, append-assoc, append-nil}
 use mathlib.Core.Logic.{_⊎_, ⊎-elim}
-use Prim.Native.Nat.{ℕ, zero, suc, _+_, _*_, _-_, _≤_, _<_}
+use Prim.Native.Nat.{ℕ, zero, suc, _+_, _*_, _-_, _≤_, _<_, max}
 use native.Mathlib.Nat.{mul-le-mul-right, add-mul, one-mul}
 use native.Mathlib.Numerals.{add-one, add-one-le}
 use native.Mathlib.Omega.{arith}
@@ -141,9 +141,13 @@ copy-whole c out l at fits e =
     e ∙ ap (take (length out)) (take-all (length c - at) (drop at c) (omega (arith, length-drop at c))) ∙ fetch-part c at (length out) fits
 
 -- ---- put
-pub put-length : (c : List ℕ) (at : ℕ) (ys : List ℕ) → at + length ys ≤ length c → length (put c at ys) ≡ length c
+-- a run stored past a list makes it longer, and no later one makes it shorter: where a list is as long after all stores as before, each lay inside it
+pub put-reaches : (c : List ℕ) (at : ℕ) (ys : List ℕ) → length (put c at ys) ≡ max (length c) (at + length ys)
 unfolding put
-put-length c at ys fits = simp (length-append, length-take, length-drop) (omega (arith, length-replicate {A = ℕ} (at - length c) 0))
+put-reaches c at ys = simp (length-append, length-take, length-drop) (omega (arith, length-replicate {A = ℕ} (at - length c) 0))
+
+pub put-length : (c : List ℕ) (at : ℕ) (ys : List ℕ) → at + length ys ≤ length c → length (put c at ys) ≡ length c
+put-length c at ys fits = put-reaches c at ys ∙ omega arith
 
 -- inside the list there is no gap
 pub put-plain : (c : List ℕ) (at : ℕ) (ys : List ℕ) → at ≤ length c → put c at ys ≡ take at c ++ (ys ++ drop (length ys) (drop at c))
@@ -275,30 +279,62 @@ walked-next step {c₀} {c} {c'} {h} {y} some w lt len e =
     let next : y - 1 + 1 ≡ y + 1 - 1 = omega arith in
     subst (λ (k : ℕ). Walked (λ i. step (i + 1)) c₀ c' (h - 1) k) next (walked-more w (omega arith) len (e ∙ ap (λ (k : ℕ). step k c) here))
 
--- ---- stages that stay inside: a stage on lists of len bytes keeps their length, and lists that follow don't count
+-- ---- stages that keep the length of a list of len bytes: nothing is stored past it
+pub record Keeps (len : ℕ) (stage : List ℕ → List ℕ) : Type 0 where
+  pub same : (c : List ℕ) → length c ≡ len → length (stage c) ≡ len
+
+-- a run of n bytes, read in whatever way
+pub keeps-put : (len at n : ℕ) (run : List ℕ → List ℕ) → at + n ≤ len → ((c : List ℕ) → length (run c) ≡ n) → Keeps len (λ c. put c at (run c))
+keeps-put len at n run fits long = record { same = λ c e. put-length c at (run c) (omega (arith, long c)) ∙ e }
+
+pub keeps-then : {len : ℕ} {f g : List ℕ → List ℕ} → Keeps len f → Keeps len g → Keeps len (λ c. g (f c))
+keeps-then {len} {f} {g} a b = record { same = λ c e. b .same (f c) (a .same c e) }
+
+pub keeps-none : {len : ℕ} → Keeps len (λ c. c)
+keeps-none = record { same = λ c e. e }
+
+pub keeps-steps : (len : ℕ) (step : ℕ → List ℕ → List ℕ) (n : ℕ) → ((y : ℕ) → y < n → Keeps len (step y)) → Keeps len (steps step n)
+unfolding steps
+keeps-steps len step zero each = keeps-none
+keeps-steps len step (suc n) each = keeps-then (keeps-steps len step n (λ y h. each y (omega arith))) (each n (omega arith))
+
+-- ---- stages that stay inside: lists that follow don't count
 pub record Inside (len : ℕ) (stage : List ℕ → List ℕ) : Type 0 where
-  pub keeps : (c : List ℕ) → length c ≡ len → length (stage c) ≡ len
+  pub keeps : Keeps len stage
   pub aside : (c S : List ℕ) → length c ≡ len → stage c ++ S ≡ stage (c ++ S)
 
--- a run of n bytes, read of the list in whatever way
 pub inside-put : (len at n : ℕ) (run : List ℕ → List ℕ) → at + n ≤ len → ((c : List ℕ) → length (run c) ≡ n) → ((c S : List ℕ) → length c ≡ len → run c ≡ run (c ++ S)) → Inside len (λ c. put c at (run c))
 inside-put len at n run fits long reads =
     record {
-      keeps = λ c e. put-length c at (run c) (omega (arith, long c)) ∙ e;
+      keeps = keeps-put len at n run fits long;
       aside = λ c S e. put-left c S (run c) at (omega (arith, long c)) ∙ ap (put (c ++ S) at) (reads c S e);
     }
 
 pub inside-then : {len : ℕ} {f g : List ℕ → List ℕ} → Inside len f → Inside len g → Inside len (λ c. g (f c))
 inside-then {len} {f} {g} a b =
     record {
-      keeps = λ c e. b .keeps (f c) (a .keeps c e);
-      aside = λ c S e. b .aside (f c) S (a .keeps c e) ∙ ap g (a .aside c S e);
+      keeps = keeps-then (a .keeps) (b .keeps);
+      aside = λ c S e. b .aside (f c) S (a .keeps .same c e) ∙ ap g (a .aside c S e);
     }
 
 pub inside-none : {len : ℕ} → Inside len (λ c. c)
-inside-none = record { keeps = λ c e. e; aside = λ c S e. refl }
+inside-none = record { keeps = keeps-none; aside = λ c S e. refl }
 
 pub inside-steps : (len : ℕ) (step : ℕ → List ℕ → List ℕ) (n : ℕ) → ((y : ℕ) → y < n → Inside len (step y)) → Inside len (steps step n)
 unfolding steps
 inside-steps len step zero each = inside-none
 inside-steps len step (suc n) each = inside-then (inside-steps len step n (λ y h. each y (omega arith))) (each n (omega arith))
+
+-- in a longer list they keep its length too
+pub inside-keeps : {len : ℕ} {stage : List ℕ → List ℕ} (more : ℕ) → Inside len stage → Keeps (len + more) stage
+inside-keeps {len} {stage} more s =
+    record {
+      same = λ c e.
+          let F = take len c in
+          let S = drop len c in
+          let long : length F ≡ len = length-take-le len c (omega arith) in
+          ap (λ (x : List ℕ). length (stage x)) (sym (take-append-drop len c))
+          ∙ ap length (sym (s .aside F S long))
+          ∙ length-append (stage F) S
+          ∙ omega (arith, s .keeps .same F long, length-drop len c);
+    }

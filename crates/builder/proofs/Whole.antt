@@ -145,7 +145,7 @@ unfolding refined
 refined-no q c e = sym (cond-no (refines q) _ c e)
 
 -- ---- the stages
-copied-inside : (q : Layout) {n sp len spill scratch : ℕ} (src : List ℕ) → Ready q n sp len spill scratch → 1 ≤ levelsOf q → q .opts .full ≡ true → Inside len (copied q src sp)
+pub copied-inside : (q : Layout) {n sp len spill scratch : ℕ} (src : List ℕ) → Ready q n sp len spill scratch → 1 ≤ levelsOf q → q .opts .full ≡ true → Inside len (copied q src sp)
 unfolding copied
 copied-inside q {n} {sp} {len} src r some full =
     let w = widthAt q 0 in

@@ -6,7 +6,7 @@ use native.Mathlib.Omega.{arith}
 use denote.Ref.{now}
 use borrow.Author.Needs.{needs}
 use Rattle.builder.specs.Refining.{pairs, quarter, foldPairs, refine}
-use Rattle.builder.proofs.Refined.{planes-kept, planes-fewer, planes-at, pel-four}
+use Rattle.builder.proofs.Refined.{halves-two, halves-four, planes-kept, planes-fewer, planes-at, pel-four}
 use Rattle.builder.proofs.refining.refine.Statement.{statement}
 use Rattle.builder.proofs.refining.refine.Tie as tie
 
@@ -14,7 +14,7 @@ half-planes-requires : tie.Need-half-planes-requires
 half-planes-requires c κs =
     let at-if1 = c .before .before .before in
     let entered = at-if1 .before .before .before .before in
-    (record { across = omega arith; down = omega arith; below = omega arith; some = omega arith; most = omega arith }, planes-at (at-if1 .if1 .taken) (entered .pre .1), entered .pre .2)
+    (halves-two, planes-at (at-if1 .if1 .taken) (entered .pre .1), entered .pre .2)
 
 same-length : tie.Need-same-length
 same-length c = search needs
@@ -38,7 +38,7 @@ half-planes-requires-2 : tie.Need-half-planes-requires-2
 half-planes-requires-2 c κs =
     let at-if1 = c .before .before .before in
     let entered = at-if1 .before .before .before .before in
-    (record { across = omega arith; down = omega arith; below = omega arith; some = omega arith; most = omega arith }, planes-fewer (planes-at (pel-four (entered .pre .0) (at-if1 .if1 .left)) (entered .pre .1)) (omega arith), entered .pre .2)
+    (halves-four, planes-fewer (planes-at (pel-four (entered .pre .0) (at-if1 .if1 .left)) (entered .pre .1)) (omega arith), entered .pre .2)
 
 quarters-requires : tie.Need-quarters-requires
 quarters-requires c κs =
