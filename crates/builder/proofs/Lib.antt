@@ -10,6 +10,7 @@
 --     Prepared   a build that isn't refused: what its stages need is there, and those inside the frame don't see the spill
 --     Whole      a build, whole: what the refusals leave, level 0's rows and planes, and its stages one after the other
 --     Enough     the spill need covers every store of a build
+--     Before     nothing that is computed depends on what lies before the canvas or a row
 --     Known      an answer is known by its number and value
 --     ByHand     document 01's examples, computed
 --     Unique     no second outcome meets a public call's contract
@@ -25,6 +26,7 @@ pub mod Spreads
 pub mod Prepared
 pub mod Whole
 pub mod Enough
+pub mod Before
 pub mod Known
 pub mod ByHand
 pub mod Unique

@@ -156,7 +156,7 @@ below-reach Bilinear {sp = sp} {h = h} {y = y} s lt more = omega (arith, s .rows
 below-reach Quadratic {sp = sp} {h = h} {y = y} s lt more = omega (arith, s .rows, next-row y h sp (more refl))
 below-reach Cubic {sp = sp} {h = h} {y = y} s lt more = omega (arith, s .rows, next-row y h sp (more refl))
 
-past-first : (f : ReduceFilter) (y h : ℕ) → isEdge f y h ≡ false → 0 < y
+pub past-first : (f : ReduceFilter) (y h : ℕ) → isEdge f y h ≡ false → 0 < y
 past-first f zero h e = absurd (let z : _≡_ {A = ℕ} 0 1 = cc in omega arith)
 past-first f (suc y) h e = omega arith
 
