@@ -1,5 +1,6 @@
-// Document 01, "Checked by hand", what is run by a program: the number of a frame that is exactly long enough and of one a byte short, and whether targets 8, 7 and 10 wide fuse.
-// A fused level keeps the margins that it has when they are cleared; another's are zeroed.
+// Document 01, "Checked by hand", what is run by a program: the number of a frame that is exactly long enough and of one a byte short, whether targets 8, 7 and 10 wide fuse, and the bytes of level 1 that refining overwrites.
+// A fused level keeps the margins that it has when they are cleared; another's are zeroed. Last, the smallest picture whose build depends on bytes past the written end.
+use builder::build::build_plane;
 use builder::layout::Layout;
 use builder::margins::clear_margins;
 use libc::STDOUT_FILENO;
@@ -32,6 +33,105 @@ fn main() {
         b"target 10 wide, margin byte: ",
         margin(layout(1, 20, 16, 0, 32), 512 + 10),
     );
+    overwritten();
+    print(
+        b"16x24, not full, byte 161 of an exact frame: ",
+        past_end(180),
+    );
+    print(
+        b"16x24, not full, byte 161 with 255s past its end: ",
+        past_end(260),
+    );
+}
+
+// 20x20 at pitch 20 by the defaults, built with pel 1 and pel 2: what differs in level 1 was overwritten.
+fn overwritten() {
+    let mut src = [0u8; 400];
+    columns(&mut src);
+    let mut whole = [0u8; 680];
+    let mut refined = [0u8; 1880];
+    let first = built(&mut whole, layout(1, 20, 20, 0, 20), &src, 20);
+    let second = built(&mut refined, layout(2, 20, 20, 0, 20), &src, 20);
+    print(b"20x20, pitch 20, pel 1: ", first);
+    print(b"20x20, pitch 20, pel 2: ", second);
+    print(
+        b"20x20, pel 2, bytes of level 1 and later that differ: ",
+        differences(&refined, 1600, &whole, 400, 280),
+    );
+    print(
+        b"20x20, pel 2, of the first 12: ",
+        differences(&refined, 1600, &whole, 400, 12),
+    );
+}
+
+// Rows of 20 bytes, each byte ten times its column.
+fn columns(src: &mut [u8]) {
+    let n = src.len();
+    for i in 0..n {
+        src[i] = (10 * (i % 20)) as u8;
+    }
+}
+
+fn differences(a: &[u8], from: usize, b: &[u8], other: usize, n: usize) -> u32 {
+    let mut count: u32 = 0;
+    for i in 0..n {
+        if differs(a, from, b, other, i) {
+            count = if count < 9999 { count + 1 } else { count };
+        }
+    }
+    count
+}
+
+fn differs(a: &[u8], from: usize, b: &[u8], other: usize, i: usize) -> bool {
+    if a.len() <= i {
+        return true;
+    }
+    if a.len() - i <= from {
+        return true;
+    }
+    if b.len() <= i {
+        return true;
+    }
+    if b.len() - i <= other {
+        return true;
+    }
+    a[from + i] != b[other + i]
+}
+
+// Byte 161 of a frame of len bytes of 255, from a source of zeros: 16x24, pel 1, not full, shifts 1 and 0, pitch 10.
+fn past_end(len: usize) -> u32 {
+    let mut frame = [255u8; 260];
+    byte_built(&mut frame, len)
+}
+
+fn byte_built(frame: &mut [u8], len: usize) -> u32 {
+    if frame.len() < len {
+        return 99;
+    }
+    let src = [0u8; 192];
+    let part = &mut frame[..len];
+    if built(part, unfull_layout(), &src, 8) != 0 {
+        return 98;
+    }
+    if part.len() <= 161 {
+        return 97;
+    }
+    wide(part[161])
+}
+
+fn unfull_layout() -> Layout {
+    Layout {
+        opts: record(1, OptBool::Given(false), 16, 24),
+        x_shift: 1,
+        y_shift: 0,
+        pitch: 10,
+    }
+}
+
+fn built(frame: &mut [u8], layout: Layout, src: &[u8], src_pitch: usize) -> u32 {
+    let mut spill = [7u8; 128];
+    let mut scratch = [9u8; 1024];
+    number(build_plane(frame, &mut spill, &mut scratch, layout, src, src_pitch))
 }
 
 fn print(what: &[u8], n: u32) {
@@ -42,21 +142,21 @@ fn print(what: &[u8], n: u32) {
 
 fn layout(pel: i32, width: i32, height: i32, x_shift: u32, pitch: usize) -> Layout {
     Layout {
-        opts: record(pel, width, height),
+        opts: record(pel, OptBool::Absent, width, height),
         x_shift,
         y_shift: 0,
         pitch,
     }
 }
 
-// By the defaults but for pel; zeros where it is refused.
-fn record(pel: i32, width: i32, height: i32) -> SuperOpts {
+// By the defaults but for pel and full; zeros where it is refused.
+fn record(pel: i32, full: OptBool, width: i32, height: i32) -> SuperOpts {
     let settings = Settings {
         pel: OptInt::Given(pel),
         gpu: OptInt::Absent,
         down: OptInt::Absent,
         up: OptInt::Absent,
-        full: OptBool::Absent,
+        full,
         rc: OptBool::Absent,
         lean: OptBool::Absent,
     };
