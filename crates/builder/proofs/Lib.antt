@@ -14,6 +14,7 @@
 --     Known      an answer is known by its number and value
 --     ByHand     document 01's examples, computed
 --     Unique     no second outcome meets a public call's contract
+--     Same       settings that don't matter leave no trace
 -- The folders hold a proof for each function.
 pub mod Choices
 pub mod Runs
@@ -30,3 +31,4 @@ pub mod Before
 pub mod Known
 pub mod ByHand
 pub mod Unique
+pub mod Same

@@ -8,6 +8,7 @@
 --     Build      the whole build
 --     Room       what the inner calls need of the slices that they are lent
 --     Answers    the number and value of each call, and of each answer
+--     Demands    demand 3, byte for byte, as types
 -- What is proved of these is in proofs/.
 pub mod Canvas
 pub mod Layout
@@ -18,3 +19,4 @@ pub mod Refining
 pub mod Build
 pub mod Room
 pub mod Answers
+pub mod Demands

@@ -54,7 +54,7 @@ decoded r e =
 -- ---- other filters under the same word
 -- as long as down stays 4 or stays another, and up is 0 off gpu 0
 module _ (r : SuperOpts) (down up : ℤ) (same : isNat down 4 ≡ isNat (r .«scale_down») 4) where
-  filtered-word : wordOf (filtered r down up) ≡ wordOf r
+  pub filtered-word : wordOf (filtered r down up) ≡ wordOf r
   unfolding wordOf
   filtered-word = rw same
 
@@ -62,21 +62,21 @@ module _ (r : SuperOpts) (down up : ℤ) (same : isNat down 4 ≡ isNat (r .«sc
   unfolding settingsNo
   filtered-no = rw same
 
-  filtered-accepted : accepted r ≡ true → (isNat (r .gpu) 0 || isNat up 0) ≡ true → accepted (filtered r down up) ≡ true
+  pub filtered-accepted : accepted r ≡ true → (isNat (r .gpu) 0 || isNat up 0) ≡ true → accepted (filtered r down up) ≡ true
   filtered-accepted e ok = let f = fine r e in fine-accepted (filtered r down up) (record { none = filtered-no ∙ f .none; up = ok; levels = f .levels })
 
-four-or-not : (t : Bool) → isNat (cond t (pos 4) (pos 0)) 4 ≡ t
+pub four-or-not : (t : Bool) → isNat (cond t (pos 4) (pos 0)) 4 ≡ t
 four-or-not true = refl
 four-or-not false = refl
 
-or-true : (t : Bool) → (t || true) ≡ true
+pub or-true : (t : Bool) → (t || true) ≡ true
 or-true true = refl
 or-true false = refl
 
 canon-word : (r : SuperOpts) → wordOf (canon r) ≡ wordOf r
 canon-word r = filtered-word r (cond (isNat (r .«scale_down») 4) (pos 4) (pos 0)) (pos 0) (four-or-not (isNat (r .«scale_down») 4))
 
-canon-accepted : (r : SuperOpts) → accepted r ≡ true → accepted (canon r) ≡ true
+pub canon-accepted : (r : SuperOpts) → accepted r ≡ true → accepted (canon r) ≡ true
 canon-accepted r e = filtered-accepted r (cond (isNat (r .«scale_down») 4) (pos 4) (pos 0)) (pos 0) (four-or-not (isNat (r .«scale_down») 4)) e (or-true (isNat (r .gpu) 0))
 
 -- ---- a code
@@ -104,21 +104,21 @@ filtered-packs v down up e fd fu same ok =
     record { down-fits = fd; up-fits = fu; good = filtered-accepted (candidate v) down up same (p .good) ok; word = filtered-word (candidate v) down up same ∙ p .word }
 
 -- ---- the number, by its three tests
-abbrev halving : SuperOpts → Bool
+abbrev pub halving : SuperOpts → Bool
 halving r = downMatters r && not (isNat (r .«scale_down») 4)
 
-abbrev upscale : SuperOpts → Bool
+abbrev pub upscale : SuperOpts → Bool
 upscale r = upMatters r && isNat (r .gpu) 0
 
-abbrev numberBy : Bool → Bool → Bool → ℕ
+abbrev pub numberBy : Bool → Bool → Bool → ℕ
 numberBy c a b = refuse (not c) 20 then refuse a 21 then refuse b 22
 
-read-by : (v : ℕ) → readNo v ≡ numberBy (isCode (candidate v) v) (halving (candidate v)) (upscale (candidate v))
+pub read-by : (v : ℕ) → readNo v ≡ numberBy (isCode (candidate v) v) (halving (candidate v)) (upscale (candidate v))
 unfolding readNo
 read-by v = refl
 
 -- the three tests of each number
-data Case : Bool → Bool → Bool → ℕ → Type 0 where
+pub data Case : Bool → Bool → Bool → ℕ → Type 0 where
   none : {a b : Bool} → Case false a b 20
   open-down : {b : Bool} → Case true true b 21
   open-up : Case true false true 22
@@ -130,7 +130,7 @@ case true false true = open-up
 case true false false = tells
 case false a b = none
 
-read-case : (v : ℕ) → Case (isCode (candidate v) v) (halving (candidate v)) (upscale (candidate v)) (readNo v)
+pub read-case : (v : ℕ) → Case (isCode (candidate v) v) (halving (candidate v)) (upscale (candidate v)) (readNo v)
 read-case v = rw (read-by v) (case (isCode (candidate v) v) (halving (candidate v)) (upscale (candidate v)))
 
 at-20 : {c a b : Bool} {n : ℕ} → Case c a b n → n ≡ 20 → c ≡ false
@@ -139,33 +139,33 @@ at-20 open-down e = absurd (omega arith)
 at-20 open-up e = absurd (omega arith)
 at-20 tells e = absurd (omega arith)
 
-at-21 : {c a b : Bool} {n : ℕ} → Case c a b n → n ≡ 21 → (c ≡ true) × (a ≡ true)
+pub at-21 : {c a b : Bool} {n : ℕ} → Case c a b n → n ≡ 21 → (c ≡ true) × (a ≡ true)
 at-21 none e = absurd (omega arith)
 at-21 open-down e = (refl, refl)
 at-21 open-up e = absurd (omega arith)
 at-21 tells e = absurd (omega arith)
 
-at-22 : {c a b : Bool} {n : ℕ} → Case c a b n → n ≡ 22 → (c ≡ true) × (a ≡ false) × (b ≡ true)
+pub at-22 : {c a b : Bool} {n : ℕ} → Case c a b n → n ≡ 22 → (c ≡ true) × (a ≡ false) × (b ≡ true)
 at-22 none e = absurd (omega arith)
 at-22 open-down e = absurd (omega arith)
 at-22 open-up e = (refl, refl, refl)
 at-22 tells e = absurd (omega arith)
 
-at-0 : {c a b : Bool} {n : ℕ} → Case c a b n → n ≡ 0 → (c ≡ true) × (a ≡ false) × (b ≡ false)
+pub at-0 : {c a b : Bool} {n : ℕ} → Case c a b n → n ≡ 0 → (c ≡ true) × (a ≡ false) × (b ≡ false)
 at-0 none e = absurd (omega arith)
 at-0 open-down e = absurd (omega arith)
 at-0 open-up e = absurd (omega arith)
 at-0 tells e = (refl, refl, refl)
 
-false-by : (t : Bool) → (t ≡ true → ⊥) → t ≡ false
+pub false-by : (t : Bool) → (t ≡ true → ⊥) → t ≡ false
 false-by true h = absurd (h refl)
 false-by false h = refl
 
-true-by : (t : Bool) → (t ≡ false → ⊥) → t ≡ true
+pub true-by : (t : Bool) → (t ≡ false → ⊥) → t ≡ true
 true-by true h = refl
 true-by false h = absurd (h refl)
 
-clash : (t : Bool) → t ≡ true → t ≡ false → ⊥
+pub clash : (t : Bool) → t ≡ true → t ≡ false → ⊥
 clash t p q = yes-no (sym p ∙ q)
 
 -- ---- 20: "It answers "not a code" exactly if none packs to it"
@@ -204,7 +204,7 @@ no-four false e = refl
 four-is : (z y : ℤ) → isNat z 4 ≡ true → isNat y 4 ≡ true → halvingOf z ≡ halvingOf y
 four-is z y p q = ap halvingOf (is-nat-pos z 4 p ∙ sym (is-nat-pos y 4 q))
 
-canon-four : (v : ℕ) (r : SuperOpts) → Packs v r → isNat (candidate v .«scale_down») 4 ≡ isNat (r .«scale_down») 4
+pub canon-four : (v : ℕ) (r : SuperOpts) → Packs v r → isNat (candidate v .«scale_down») 4 ≡ isNat (r .«scale_down») 4
 canon-four v r p = ap (λ (q : SuperOpts). isNat (q .«scale_down») 4) (packs-canon v r p) ∙ four-or-not (isNat (r .«scale_down») 4)
 
 halving-witness : (v : ℕ) → readNo v ≡ 21 → HalvingOpen v
@@ -234,7 +234,7 @@ halving-exact v = (halving-witness v, λ h. read-by v ∙ rw (packs-code v (h .o
 zero-is : (z y : ℤ) → isNat z 0 ≡ true → isNat y 0 ≡ true → upscaleOf z ≡ upscaleOf y
 zero-is z y p q = ap upscaleOf (is-nat-pos z 0 p ∙ sym (is-nat-pos y 0 q))
 
-or-right : (a b : Bool) → a ≡ false → (a || b) ≡ true → b ≡ true
+pub or-right : (a b : Bool) → a ≡ false → (a || b) ≡ true → b ≡ true
 or-right true b e f = cc
 or-right false b e f = f
 
