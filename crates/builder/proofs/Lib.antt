@@ -15,6 +15,7 @@
 --     ByHand     document 01's examples, computed
 --     Unique     no second outcome meets a public call's contract
 --     Same       settings that don't matter leave no trace
+--     Kept       one byte of the canvas through the stages of a build
 -- The folders hold a proof for each function.
 pub mod Choices
 pub mod Runs
@@ -32,3 +33,4 @@ pub mod Known
 pub mod ByHand
 pub mod Unique
 pub mod Same
+pub mod Kept
