@@ -16,6 +16,8 @@
 --     Unique     no second outcome meets a public call's contract
 --     Same       settings that don't matter leave no trace
 --     Kept       one byte of the canvas through the stages of a build
+--     Witness    a plane by which two settings of a filter that isn't told are known apart
+--     Demanded   demand 3, byte for byte
 -- The folders hold a proof for each function.
 pub mod Choices
 pub mod Runs
@@ -34,3 +36,5 @@ pub mod ByHand
 pub mod Unique
 pub mod Same
 pub mod Kept
+pub mod Witness
+pub mod Demanded

@@ -1,4 +1,4 @@
--- Demand 3, byte for byte: what reading a word answers, over the bytes that the records behind it leave. Types only; that a word which reading takes for one build names one is `one-there` of proofs/Same.antt.
+-- Demand 3, byte for byte: what reading a word answers, over the bytes that the records behind it leave. Types only: `reads-met` and `both-met` of proofs/Demanded.antt prove them.
 -- First what a build is given; then builds that leave the same, and two that differ; last the demand, each part cited.
 use Prim.Native.Nat.{ℕ}
 use mathlib.Core.Path.{_≡_}
