@@ -12,13 +12,13 @@ use lib.ListN.{length, getD, replicate, length-replicate}
 use borrow.Author.Tests.{le-ltb, leb-true, not-true}
 use Rattle.settings.specs.declared.super_opts.SuperOpts.{SuperOpts}
 use Rattle.settings.specs.Limits.{mostPitch}
-use Rattle.settings.specs.Numbers.{isNat, isI32, toNat, refuse, _then_}
+use Rattle.settings.specs.Numbers.{isNat, toNat, refuse, _then_}
 use Rattle.settings.specs.Sizes.{reduced}
 use Rattle.settings.specs.Check.{accepted, pelOf, lumaW, lumaH, levelCount}
 use Rattle.settings.specs.Reading.{candidate, isCode, readNo, downMatters, upMatters, Packs}
 use Rattle.settings.proofs.Tests.{and-left, and-right}
 use Rattle.settings.proofs.Accepted.{fine, within, record-none}
-use Rattle.settings.proofs.Told.{filtered, filtered-word, filtered-accepted, halving as halvingOpen, upscale as upscaleOpen, numberBy, read-by, read-case, at-21, at-22, false-by, true-by, clash, canon-four, packs-code, code-packs, none-exact, tells-exact, only-exact}
+use Rattle.settings.proofs.Told.{filtered, filtered-packs, halving as halvingOpen, upscale as upscaleOpen, numberBy, read-by, read-case, at-21, at-22, false-by, true-by, clash, canon-four, packs-code, code-packs, none-exact, tells-exact, only-exact}
 use Rattle.filters.specs.declared.halving.ReduceFilter.the-variants.{Average}
 use Rattle.filters.specs.declared.halving.Chosen.the-variants.{Filter, NoFilter}
 use Rattle.filters.specs.declared.half_pel.HalfPel.the-variants.{CatmullRom}
@@ -91,11 +91,6 @@ zeros-bytes l e = ap bytes e ∙ bytes-rep (length l) 0 refl
 different : (m n : List ℕ) (i j a b : ℕ) → i ≡ j → getD m i 0 ≡ a → getD n j 0 ≡ b → (a ≡ b → ⊥) → m ≡ n → ⊥
 different m n i j a b ij ea eb ne e = ne (sym ea ∙ ap (λ (l : List ℕ). getD l i 0) e ∙ ap (λ (k : ℕ). getD n k 0) ij ∙ eb)
 
--- other filters under the same word
-filtered-packs : (v : ℕ) (r : SuperOpts) (d u : ℤ) → isNat d 4 ≡ isNat (r .«scale_down») 4 → (isNat (r .gpu) 0 || isNat u 0) ≡ true → isI32 d ≡ true → isI32 u ≡ true → Packs v r → Packs v (filtered r d u)
-filtered-packs v r d u same ok fd fu p =
-    record { down-fits = fd; up-fits = fu; good = filtered-accepted r d u same (p .good) ok; word = filtered-word r d u same ∙ p .word }
-
 chosen-0 : chosen (pos 0) ≡ Filter Average
 unfolding chosen
 chosen-0 = refl
@@ -148,8 +143,8 @@ module _ (v : ℕ) (r : SuperOpts) (p : Packs v r) where
       let other = not-true (isNat (r .«scale_down») 4) (and-right (downMatters r) (not (isNat (r .«scale_down») 4)) e) in
       let two = leb-true 2 (levelCount r) (and-left (downMatters r) (not (isNat (r .«scale_down») 4)) e) in
       let lv : 1 ≤ levelCount r = omega arith in
-      let p0 = filtered-packs v r (pos 0) u (sym other) ok refl (p .up-fits) p in
-      let p5 = filtered-packs v r (pos 5) u (sym other) ok refl (p .up-fits) p in
+      let p0 = filtered-packs v r (pos 0) u p refl (p .up-fits) (sym other) ok in
+      let p5 = filtered-packs v r (pos 5) u p refl (p .up-fits) (sym other) ok in
       let Z = withDown r (pos 0) in
       let Y = withDown r (pos 5) in
       let eZ = ends-at (pos 0) u in
@@ -176,8 +171,8 @@ module _ (v : ℕ) (r : SuperOpts) (p : Packs v r) where
       let a : ℕ = cond (eqb (pelOf r) 2) 1 2 in
       let at = placed-at (pelOf r) (pel-more r (p .good) more) in
       let ok : (u : ℤ) → (isNat (r .gpu) 0 || isNat u 0) ≡ true = λ u. rw zero' in
-      let p0 = filtered-packs v r d (pos 0) refl (ok (pos 0)) (p .down-fits) refl p in
-      let p1 = filtered-packs v r d (pos 1) refl (ok (pos 1)) (p .down-fits) refl p in
+      let p0 = filtered-packs v r d (pos 0) p (p .down-fits) refl refl (ok (pos 0)) in
+      let p1 = filtered-packs v r d (pos 1) p (p .down-fits) refl refl (ok (pos 1)) in
       let Z = withUp r (pos 0) in
       let Y = withUp r (pos 1) in
       let eZ = ends-at d (pos 0) in

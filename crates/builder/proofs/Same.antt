@@ -14,12 +14,13 @@ use Rattle.settings.specs.Numbers.{isNat, isI32, total}
 use Rattle.settings.specs.Check.{accepted, pelOf, levelCount}
 use Rattle.settings.specs.Reading.{candidate, readNo, downMatters, upMatters, Packs}
 use Rattle.settings.proofs.Accepted.{fine, is-nat-pos}
-use Rattle.settings.proofs.Told.{filtered, filtered-word, filtered-accepted, four-or-not, or-true, canon-accepted, canon-four, packs-canon, code-packs, read-case, at-0, halving as halvingOpen, upscale as upscaleOpen, or-right}
+use Rattle.settings.proofs.Told.{filtered, filtered-packs, four-or-not, canon-accepted, canon-four, packs-canon, code-packs, read-case, at-0, halving as halvingOpen, upscale as upscaleOpen, or-right}
 use Rattle.filters.specs.declared.halving.ReduceFilter.{ReduceFilter}
 use Rattle.filters.specs.declared.halving.Chosen.{Chosen}
 use Rattle.filters.specs.declared.halving.Chosen.the-variants.{Filter, NoFilter}
 use Rattle.filters.specs.Halve.{chosen}
 use Rattle.filters.specs.Refine.{upscale}
+use Rattle.filters.proofs.Tests.{or-yes}
 use Rattle.builder.specs.declared.layout.Layout.{Layout}
 use Rattle.builder.specs.Canvas.{steps}
 use Rattle.builder.specs.Layout.{levelsOf, storedAt, offsetAt, spillNeed, scratchNeed}
@@ -132,15 +133,9 @@ leaves-canon v e r p g =
     let known = at-0 (read-case v) e in
     let same = four-or-not (isNat (r .«scale_down») 4) in
     let ok = fine r (p .good) .up in
-    let q : Packs v (withDown r (fourOr r)) =
-    record {
-      down-fits = four-fits (isNat (r .«scale_down») 4);
-      up-fits = p .up-fits;
-      good = filtered-accepted r (fourOr r) (r .«scale_up») same (p .good) ok;
-      word = filtered-word r (fourOr r) (r .«scale_up») same ∙ p .word;
-    } in
+    let q = filtered-packs v r (fourOr r) (r .«scale_up») p (four-fits (isNat (r .«scale_down») 4)) (p .up-fits) same ok in
     ap (λ (x : SuperOpts). leaves x g) (packs-canon v r p)
-    ∙ up-same v (withDown r (fourOr r)) q g (pos 0) (or-true (isNat (r .gpu) 0)) (known .2)
+    ∙ up-same v (withDown r (fourOr r)) q g (pos 0) (or-yes (isNat (r .gpu) 0)) (known .2)
     ∙ down-same v r p g (fourOr r) same (known .1)
   where
     four-fits : (t : Bool) → isI32 (cond t (pos 4) (pos 0)) ≡ true

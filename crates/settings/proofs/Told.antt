@@ -1,21 +1,24 @@
 -- Reading a word, and the accepted records that pack to it: demand 3 as far as records go.
--- First the record that a word spells; then `none-exact` (20), `tells-exact` (0), `halving-exact` (21), `upscale-exact` (22), `only-exact`. Assumes nothing.
+-- First the record that a word spells; then `none-exact` (20), `tells-exact` (0), `halving-exact` (21), `upscale-exact` (22), `only-exact`; last `packs-exact`, what a record behind a word is. Byte for byte it is proved in crate builder, proofs/Demanded.antt. Assumes nothing.
 use mathlib.Core.Path.{_≡_, refl, sym, ap, _∙_, subst}
 use mathlib.Core.Logic.{_↔_, _⊎_, inl, inr}
 use mathlib.Core.Bool.{Bool, true, false, cond, not, _&&_, _||_}
-use Prim.Native.Nat.{ℕ}
+use Prim.Native.Nat.{ℕ, _≤_, _<_, _^_}
 use native.Mathlib.Omega.{arith}
 use lib.Dec.{eqb}
 use lib.IntN.{ℤ, pos}
-use borrow.Author.Tests.{eqb-true, eq-eqb}
+use borrow.Author.Tests.{eqb-true, eq-eqb, lt-ltb, le-ltb}
 use Rattle.settings.specs.declared.super_opts.SuperOpts.{SuperOpts}
-use Rattle.settings.specs.Numbers.{isNat, isI32, refuse, _then_}
-use Rattle.settings.specs.Check.{settingsNo, accepted}
-use Rattle.settings.specs.Word.{wordOf}
+use Rattle.settings.specs.Limits.{mostSide, mostLevels, mostPacked}
+use Rattle.settings.specs.Numbers.{isNat, toNat, isI32, refuse, _then_}
+use Rattle.settings.specs.Check.{settingsNo, levelCount, accepted, RecordI32}
+use Rattle.settings.specs.Word.{wordOf, packNo}
 use Rattle.settings.specs.Reading.{isSet, candidate, upMatters, downMatters, isCode, readNo, tellIf, describe, Packs, halvingOf, upscaleOf, HalvingOpen, UpscaleOpen}
+use Rattle.settings.specs.Answers.{Answer, answer, packAnswer}
 use Rattle.settings.proofs.Tests.{and-left, and-right}
 use Rattle.settings.proofs.Integers.{yes-no}
-use Rattle.settings.proofs.Accepted.{is-nat-pos, Fine, fine, fine-accepted, sound, pos-pel, pos-gpu, pos-side, pos-levels}
+use Rattle.settings.proofs.Accepted.{is-nat-pos, Fine, fine, fine-accepted, sound, within, levels-most, pos-pel, pos-gpu, pos-side, pos-levels, Returns, accepted-exact}
+use Rattle.settings.proofs.Known.{given}
 use Rattle.settings.proofs.Words.{bit-back, not-not, small, word-height, word-width, word-pel, word-levels, word-other, word-lean, word-gpu, word-rc, word-part}
 
 -- ---- the record that a word spells
@@ -54,7 +57,7 @@ decoded r e =
 -- ---- other filters under the same word
 -- as long as down stays 4 or stays another, and up is 0 off gpu 0
 module _ (r : SuperOpts) (down up : ℤ) (same : isNat down 4 ≡ isNat (r .«scale_down») 4) where
-  pub filtered-word : wordOf (filtered r down up) ≡ wordOf r
+  filtered-word : wordOf (filtered r down up) ≡ wordOf r
   unfolding wordOf
   filtered-word = rw same
 
@@ -62,14 +65,14 @@ module _ (r : SuperOpts) (down up : ℤ) (same : isNat down 4 ≡ isNat (r .«sc
   unfolding settingsNo
   filtered-no = rw same
 
-  pub filtered-accepted : accepted r ≡ true → (isNat (r .gpu) 0 || isNat up 0) ≡ true → accepted (filtered r down up) ≡ true
+  filtered-accepted : accepted r ≡ true → (isNat (r .gpu) 0 || isNat up 0) ≡ true → accepted (filtered r down up) ≡ true
   filtered-accepted e ok = let f = fine r e in fine-accepted (filtered r down up) (record { none = filtered-no ∙ f .none; up = ok; levels = f .levels })
 
 pub four-or-not : (t : Bool) → isNat (cond t (pos 4) (pos 0)) 4 ≡ t
 four-or-not true = refl
 four-or-not false = refl
 
-pub or-true : (t : Bool) → (t || true) ≡ true
+or-true : (t : Bool) → (t || true) ≡ true
 or-true true = refl
 or-true false = refl
 
@@ -97,11 +100,10 @@ code-packs v e =
     let r = candidate v in
     record { down-fits = four-fits (isSet v 46); up-fits = refl; good = and-left (accepted r) (eqb (wordOf r) v) e; word = eqb-true (wordOf r) v (and-right (accepted r) (eqb (wordOf r) v) e) }
 
--- a code under other filters
-filtered-packs : (v : ℕ) (down up : ℤ) → isCode (candidate v) v ≡ true → isI32 down ≡ true → isI32 up ≡ true → isNat down 4 ≡ isNat (candidate v .«scale_down») 4 → (isNat (candidate v .gpu) 0 || isNat up 0) ≡ true → Packs v (filtered (candidate v) down up)
-filtered-packs v down up e fd fu same ok =
-    let p = code-packs v e in
-    record { down-fits = fd; up-fits = fu; good = filtered-accepted (candidate v) down up same (p .good) ok; word = filtered-word (candidate v) down up same ∙ p .word }
+-- other filters under the same word
+pub filtered-packs : (v : ℕ) (r : SuperOpts) (down up : ℤ) → Packs v r → isI32 down ≡ true → isI32 up ≡ true → isNat down 4 ≡ isNat (r .«scale_down») 4 → (isNat (r .gpu) 0 || isNat up 0) ≡ true → Packs v (filtered r down up)
+filtered-packs v r down up p fd fu same ok =
+    record { down-fits = fd; up-fits = fu; good = filtered-accepted r down up same (p .good) ok; word = filtered-word r down up same ∙ p .word }
 
 -- ---- the number, by its three tests
 abbrev pub halving : SuperOpts → Bool
@@ -215,8 +217,8 @@ halving-witness v e =
     record {
       one = filtered c (pos 0) (pos 0);
       other = filtered c (pos 5) (pos 0);
-      one-packs = filtered-packs v (pos 0) (pos 0) (k .0) refl refl other (or-true (isNat (c .gpu) 0));
-      other-packs = filtered-packs v (pos 5) (pos 0) (k .0) refl refl other (or-true (isNat (c .gpu) 0));
+      one-packs = filtered-packs v c (pos 0) (pos 0) (code-packs v (k .0)) refl refl other (or-true (isNat (c .gpu) 0));
+      other-packs = filtered-packs v c (pos 5) (pos 0) (code-packs v (k .0)) refl refl other (or-true (isNat (c .gpu) 0));
       matters = and-left (downMatters c) (not (isNat (c .«scale_down») 4)) (k .1);
       differ = λ h. omega arith;
     }
@@ -246,8 +248,8 @@ upscale-witness v e =
     record {
       one = filtered c (c .«scale_down») (pos 0);
       other = filtered c (c .«scale_down») (pos 1);
-      one-packs = filtered-packs v (c .«scale_down») (pos 0) (k .0) (code-packs v (k .0) .down-fits) refl refl (or-true (isNat (c .gpu) 0));
-      other-packs = filtered-packs v (c .«scale_down») (pos 1) (k .0) (code-packs v (k .0) .down-fits) refl refl (rw zero);
+      one-packs = filtered-packs v c (c .«scale_down») (pos 0) (code-packs v (k .0)) (code-packs v (k .0) .down-fits) refl refl (or-true (isNat (c .gpu) 0));
+      other-packs = filtered-packs v c (c .«scale_down») (pos 1) (code-packs v (k .0)) (code-packs v (k .0) .down-fits) refl refl (rw zero);
       matters = and-left (upMatters c) (isNat (c .gpu) 0) (k .2);
       differ = λ h. omega arith;
     }
@@ -274,3 +276,37 @@ only-exact v = of (read-case v)
     of open-down = inr (inr (inl refl))
     of open-up = inr (inr (inr refl))
     of tells = inl refl
+
+-- ---- what `Packs` is, by the calls' own answers: the check can return the record, and packing it gives the word
+fits-by : (z : ℤ) (m : ℕ) → pos (toNat z) ≡ z → toNat z ≤ m → m < 2 ^ 31 → isI32 z ≡ true
+fits-by z m e le lt = ap isI32 (sym e) ∙ lt-ltb (toNat z) (2 ^ 31) (omega arith)
+
+packs-fits : (v : ℕ) (r : SuperOpts) → Packs v r → RecordI32 r
+packs-fits v r p =
+    let o = sound r (fine r (p .good) .none) in
+    let b = within r (p .good) in
+    record {
+      pel = fits-by (r .pel) 4 (pos-pel (r .pel) (o .pel)) (b .pel) (omega arith);
+      gpu = fits-by (r .gpu) 2 (pos-gpu (r .gpu) (o .gpu)) (b .gpu) (omega arith);
+      down = p .down-fits;
+      up = p .up-fits;
+      levels = fits-by (r .levels) mostLevels (pos-levels r (p .good)) (b .levels) (omega arith);
+      width = fits-by (r .width) mostSide (pos-side (r .width) (o .width)) (b .width) (omega arith);
+      height = fits-by (r .height) mostSide (pos-side (r .height) (o .height)) (b .height) (omega arith);
+    }
+
+pack-none : (r : SuperOpts) → accepted r ≡ true → packNo r ≡ 0
+pack-none r e = rw (e, le-ltb mostPacked (levelCount r) (omega (arith, levels-most r e)))
+
+pub packs-exact : (v : ℕ) (r : SuperOpts) → Packs v r ↔ (Returns r × (packAnswer r ≡ answer 0 v))
+packs-exact v r = (
+  λ p. (accepted-exact r .0 (packs-fits v r p, p .good), sym (given (packNo r) (wordOf r) 0 (pack-none r (p .good))) ∙ ap (answer 0) (p .word)),
+  λ t.
+      let back = accepted-exact r .1 (t .0) in
+      record {
+        down-fits = back .0 .down;
+        up-fits = back .0 .up;
+        good = back .1;
+        word = ap (λ (a : Answer ℕ). a .value) (given (packNo r) (wordOf r) 0 (pack-none r (back .1)) ∙ t .1);
+      },
+)
