@@ -74,7 +74,7 @@ fused-run p w at c v long wide fits =
     let lh : length h ≡ w = horizontal-length Cubic w v in
     let row = h ++ drop w v in
     let lr : length row ≡ 2 * w = length-append h (drop w v) ∙ omega (arith, length-drop w v) in
-    let read : fetch (put c at v) at (2 * w) ≡ v = fetch-stored c v at (2 * w) (omega arith) long in
+    let read : fetch (put c at v) at (2 * w) ≡ v = fetch-stored c v at (2 * w) long in
     ap (λ (x : List ℕ). put (put (put c at v) at (horizontalRow Cubic w x)) (at + 2 * w) z) read
     ∙ ap (λ (x : List ℕ). put x (at + 2 * w) z) (put-again c v at (omega arith) h (omega arith) ∙ ap (λ (k : ℕ). put c at (h ++ drop k v)) lh)
     ∙ ap (λ (k : ℕ). put (put c at row) (at + k) z) (sym lr)

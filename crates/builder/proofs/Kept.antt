@@ -1,15 +1,14 @@
 -- One byte of the canvas through the stages of a build: what each stage leaves of it, and what it makes of the first byte of a level and the last of a row.
 -- First a run that is stored anywhere; then loops over rows; copying; later levels; last the planes of level 0. Assumes nothing.
-use mathlib.Core.Path.{_≡_, refl, sym, ap, _∙_, subst}
-use mathlib.Core.List.{List, [], _∷_, _++_}
+use mathlib.Core.Path.{_≡_, refl, ap, _∙_, subst}
+use mathlib.Core.List.{List, [], _∷_}
 use mathlib.Core.Logic.{_⊎_, inl, inr, ⊎-elim}
 use mathlib.Core.Bool.{Bool, true, false, cond, _&&_, _||_}
 use Prim.Native.Nat.{ℕ, zero, suc, _+_, _*_, _-_, _≤_, _<_}
 use native.Mathlib.Nat.{zero-mul, le-of-suc-le-suc, eq-or-lt-of-le}
 use native.Mathlib.Omega.{arith}
 use lib.Dec.{leb, ltb}
-use lib.ListN.{length, getD, take, drop, replicate, length-append, length-take, length-drop, length-replicate, getD-replicate, List·getD-append, List·getD-eq-default}
-use lib.Seq.{getD-take, getD-drop, getD-append-add}
+use lib.ListN.{length, getD}
 use borrow.Author.Tests.{ltb-true, le-leb}
 use Rattle.settings.proofs.Tests.{and-left, and-right, or-cases}
 use Rattle.filters.specs.declared.halving.ReduceFilter.{ReduceFilter}
@@ -19,7 +18,6 @@ use Rattle.filters.specs.declared.half_pel.Upscale.the-variants.{Means, Kernel}
 use Rattle.filters.specs.Row.{meanOf, meansOf, around}
 use Rattle.filters.specs.Halve.{horizontalAt, horizontalRow}
 use Rattle.filters.specs.Refine.{halfHorizontal, placed}
-use Rattle.filters.proofs.Tests.{below-or}
 use Rattle.filters.proofs.Tables.{tab-at}
 use Rattle.filters.proofs.Lengths.{means-length, horizontal-length, half-horizontal-length, half-vertical-length}
 use Rattle.builder.specs.declared.layout.Layout.{Layout}
@@ -32,58 +30,9 @@ use Rattle.builder.specs.Margins.{fusedAt}
 use Rattle.builder.specs.Halving.{wholeOf, verticalLine, verticalRows, halveRun, horizontalRows, fromStored, fused, closeUp, fromSource}
 use Rattle.builder.specs.Refining.{chunked, pairRun, pairPlane, horizontalPlane, verticalRun, verticalPlane, planeAt, meanPlanes, kernelPlanes, halfPlanes, quarter, foldPairs}
 use Rattle.builder.specs.Build.{copied, halveLevel}
-use Rattle.builder.proofs.Runs.{fetch-length, fetch-at, row-in}
+use Rattle.builder.proofs.Runs.{fetch-length, fetch-at, put-grows, put-before, put-at, put-past, row-in}
 
 -- ---- a run that is stored
-pub put-grows : (c : List ℕ) (at : ℕ) (ys : List ℕ) → length c ≤ length (put c at ys)
-unfolding put
-put-grows c at ys = simp (length-append, length-take, length-drop) (omega (arith, length-replicate {A = ℕ} (at - length c) 0))
-
-second-at : (a b : List ℕ) (i k : ℕ) → i ≡ length a + k → getD (a ++ b) i 0 ≡ getD b k 0
-second-at a b i k e = ap (λ (j : ℕ). getD (a ++ b) j 0) e ∙ getD-append-add a b k 0
-
--- the run lies at at
-head-at : (c : List ℕ) (at : ℕ) → length (take at c) + length (replicate {A = ℕ} (at - length c) 0) ≡ at
-head-at c at = omega (arith, length-take at c, length-replicate {A = ℕ} (at - length c) 0)
-
--- a byte before it, wherever the list ends
-byte-before : (c : List ℕ) (at : ℕ) (ys : List ℕ) (i : ℕ) → i < at → getD (put c at ys) i 0 ≡ getD c i 0
-unfolding put
-byte-before c at ys i lt =
-    let gap : List ℕ = replicate (at - length c) 0 in
-    let run = ys ++ drop (length ys) (drop at c) in
-    ⊎-elim
-    (λ (in' : i < length c). List·getD-append (take at c) (gap ++ run) 0 i (omega (arith, length-take at c)) ∙ getD-take at c i 0 lt)
-    (λ (le : length c ≤ i).
-    second-at (take at c) (gap ++ run) i (i - length c) (omega (arith, length-take at c))
-    ∙ List·getD-append gap run 0 (i - length c) (omega (arith, length-replicate {A = ℕ} (at - length c) 0))
-    ∙ getD-replicate (at - length c) (i - length c) 0 0 (omega arith)
-    ∙ sym (List·getD-eq-default c 0 le))
-    (below-or i (length c))
-
--- a byte of it
-byte-in : (c : List ℕ) (at : ℕ) (ys : List ℕ) (j : ℕ) → j < length ys → getD (put c at ys) (at + j) 0 ≡ getD ys j 0
-unfolding put
-byte-in c at ys j lt =
-    let gap : List ℕ = replicate (at - length c) 0 in
-    let rest = drop (length ys) (drop at c) in
-    second-at (take at c) (gap ++ (ys ++ rest)) (at + j) (length gap + j) (omega (arith, head-at c at))
-    ∙ getD-append-add gap (ys ++ rest) j 0
-    ∙ List·getD-append ys rest 0 j lt
-
--- a byte past it
-byte-past : (c : List ℕ) (at : ℕ) (ys : List ℕ) (i : ℕ) → at + length ys ≤ i → getD (put c at ys) i 0 ≡ getD c i 0
-unfolding put
-byte-past c at ys i le =
-    let gap : List ℕ = replicate (at - length c) 0 in
-    let rest = drop (length ys) (drop at c) in
-    second-at (take at c) (gap ++ (ys ++ rest)) i (length gap + (i - at)) (omega (arith, head-at c at))
-    ∙ getD-append-add gap (ys ++ rest) (i - at) 0
-    ∙ second-at ys rest (i - at) (i - at - length ys) (omega arith)
-    ∙ getD-drop (length ys) (drop at c) (i - at - length ys) 0
-    ∙ getD-drop at c (length ys + (i - at - length ys)) 0
-    ∙ ap (λ (j : ℕ). getD c j 0) (omega arith)
-
 -- byte i is there, and is v
 pub record Has (i v : ℕ) (c : List ℕ) : Type 0 where
   pub there : i < length c
@@ -91,15 +40,15 @@ pub record Has (i v : ℕ) (c : List ℕ) : Type 0 where
 
 has-before : {i v : ℕ} {c : List ℕ} (at : ℕ) (ys : List ℕ) → i < at → Has i v c → Has i v (put c at ys)
 has-before {i} {v} {c} at ys lt h =
-    record { there = omega (arith, put-grows c at ys, h .there); is = byte-before c at ys i lt ∙ h .is }
+    record { there = omega (arith, put-grows c at ys, h .there); is = put-before c ys at i lt ∙ h .is }
 
 has-past : {i v : ℕ} {c : List ℕ} (at : ℕ) (ys : List ℕ) → at + length ys ≤ i → Has i v c → Has i v (put c at ys)
 has-past {i} {v} {c} at ys le h =
-    record { there = omega (arith, put-grows c at ys, h .there); is = byte-past c at ys i le ∙ h .is }
+    record { there = omega (arith, put-grows c at ys, h .there); is = put-past c ys at i le ∙ h .is }
 
 has-in : {v : ℕ} (c : List ℕ) (at : ℕ) (ys : List ℕ) (i j : ℕ) → i ≡ at + j → i < length c → j < length ys → getD ys j 0 ≡ v → Has i v (put c at ys)
 has-in c at ys i j e in' lt is =
-    record { there = omega (arith, put-grows c at ys); is = ap (λ (k : ℕ). getD (put c at ys) k 0) e ∙ byte-in c at ys j lt ∙ is }
+    record { there = omega (arith, put-grows c at ys); is = ap (λ (k : ℕ). getD (put c at ys) k 0) e ∙ put-at c ys at j lt ∙ is }
 
 -- ---- loops
 -- every step keeps Q

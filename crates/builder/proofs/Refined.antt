@@ -20,7 +20,7 @@ use Rattle.builder.specs.declared.refining.Interp.{Interp}
 use Rattle.builder.specs.declared.refining.Pair.{Pair}
 use Rattle.builder.specs.Refining.{pairRun, pairPlane, horizontalPlane, verticalRun, verticalPlane, planeAt, meanPlanes, kernelPlanes, pairOf, pairs, quarter, foldPairs}
 use Rattle.builder.specs.Room.{PairPlane, OnePlane, Planes, Halves, Quarter}
-use Rattle.builder.proofs.Runs.{Inside, inside-put, inside-then, inside-steps, row-in, row-fits, fetch-at, fetch-length, fetch-left, fetch-before, fetch-stored, put-plain, put-before, put-left, put-length}
+use Rattle.builder.proofs.Runs.{Inside, inside-put, inside-then, inside-steps, row-in, row-fits, fetch-at, fetch-length, fetch-left, fetch-before, fetch-stored, put-plain, put-before, put-left}
 
 tab-next : (f : ℕ → ℕ) (n : ℕ) → tab f (n + 1) ≡ tab f n ++ (f n ∷ [])
 unfolding tab
@@ -68,8 +68,8 @@ pub laid-whole : {f : ℕ → ℕ} {c₀ c : List ℕ} {t n i : ℕ} → Laid f 
 laid-whole {f} {c₀} {c} {t} {n} {i} h le = let e : i ≡ n = omega arith in h .is ∙ ap (λ (k : ℕ). put c₀ t (tab f k)) e
 
 -- a byte before t, read in the loop
-pub laid-read : {f : ℕ → ℕ} {c₀ c : List ℕ} {t n i : ℕ} (k : ℕ) → Laid f c₀ c t n i → k < t → t ≤ length c₀ → getD c k 0 ≡ getD c₀ k 0
-laid-read {f} {c₀} {c} {t} {n} {i} k h lt le = ap (λ (x : List ℕ). getD x k 0) (h .is) ∙ put-before c₀ (tab f i) t k le lt
+pub laid-read : {f : ℕ → ℕ} {c₀ c : List ℕ} {t n i : ℕ} (k : ℕ) → Laid f c₀ c t n i → k < t → getD c k 0 ≡ getD c₀ k 0
+laid-read {f} {c₀} {c} {t} {n} {i} k h lt = ap (λ (x : List ℕ). getD x k 0) (h .is) ∙ put-before c₀ (tab f i) t k lt
 
 -- the loop's rule
 abbrev pub meanAt : List ℕ → ℕ → ℕ → ℕ → ℕ
@@ -92,18 +92,16 @@ pair-left F S t l r n hl hr ht =
     ∙ ap (λ (x : List ℕ). put (F ++ S) t (meansOf n (fetch (F ++ S) l n) x)) (fetch-left F S r n hr)
 
 -- both rows laid at the start of x, and the means after them
-pub pair-apart : (c x : List ℕ) (l r n : ℕ) → 3 * n ≤ length x → fetch (pairRun (2 * n) 0 n n (put (put x 0 (fetch c l n)) n (fetch c r n))) (2 * n) n ≡ meansOf n (fetch c l n) (fetch c r n)
+pub pair-apart : (c x : List ℕ) (l r n : ℕ) → fetch (pairRun (2 * n) 0 n n (put (put x 0 (fetch c l n)) n (fetch c r n))) (2 * n) n ≡ meansOf n (fetch c l n) (fetch c r n)
 unfolding pairRun
-pair-apart c x l r n room =
+pair-apart c x l r n =
     let a = fetch c l n in
     let b = fetch c r n in
     let x1 = put x 0 a in
     let x2 = put x1 n b in
-    let e1 : length x1 ≡ length x = put-length x 0 a (omega (arith, fetch-length c l n)) in
-    let e2 : length x2 ≡ length x = put-length x1 n b (omega (arith, e1, fetch-length c r n)) ∙ e1 in
-    let first : fetch x2 0 n ≡ a = fetch-before x1 b n 0 n (omega (arith, e1)) (omega arith) ∙ fetch-stored x a 0 n (omega arith) (fetch-length c l n) in
-    let second : fetch x2 n n ≡ b = fetch-stored x1 b n n (omega (arith, e1)) (fetch-length c r n) in
-    fetch-stored x2 (meansOf n (fetch x2 0 n) (fetch x2 n n)) (2 * n) n (omega (arith, e2)) (means-length n (fetch x2 0 n) (fetch x2 n n))
+    let first : fetch x2 0 n ≡ a = fetch-before x1 b n 0 n (omega arith) ∙ fetch-stored x a 0 n (fetch-length c l n) in
+    let second : fetch x2 n n ≡ b = fetch-stored x1 b n n (fetch-length c r n) in
+    fetch-stored x2 (meansOf n (fetch x2 0 n) (fetch x2 n n)) (2 * n) n (means-length n (fetch x2 0 n) (fetch x2 n n))
     ∙ ap (λ (y : List ℕ). meansOf n y (fetch x2 n n)) first
     ∙ ap (meansOf n a) second
 

@@ -12,10 +12,8 @@ use Rattle.filters.proofs.Tests.{below-or}
 use Rattle.filters.proofs.Tables.{tab-length, tab-at, is-tab}
 use Rattle.builder.specs.Canvas.{fetch, put, steps}
 
-second-at : (a b : List ℕ) (i : ℕ) → length a ≤ i → getD (a ++ b) i 0 ≡ getD b (i - length a) 0
-second-at a b i h =
-    let e : i ≡ length a + (i - length a) = omega arith in
-    ap (λ (k : ℕ). getD (a ++ b) k 0) e ∙ getD-append-add a b (i - length a) 0
+second-at : (a b : List ℕ) (i k : ℕ) → i ≡ length a + k → getD (a ++ b) i 0 ≡ getD b k 0
+second-at a b i k e = ap (λ (j : ℕ). getD (a ++ b) j 0) e ∙ getD-append-add a b k 0
 
 -- ---- fetch
 pub fetch-length : (c : List ℕ) (at n : ℕ) → length (fetch c at n) ≡ n
@@ -49,7 +47,7 @@ fetch-two c at m n =
     (λ (lt : i < m). List·getD-append a b 0 i (omega (arith, la)) ∙ fetch-at c at m i lt)
     (λ (le : m ≤ i).
     let back : at + m + (i - m) ≡ at + i = omega arith in
-    second-at a b i (omega (arith, la)) ∙ ap (λ (k : ℕ). getD b (i - k) 0) la ∙ fetch-at c (at + m) n (i - m) (omega arith) ∙ ap (λ (k : ℕ). getD c k 0) back)
+    second-at a b i (i - m) (omega (arith, la)) ∙ fetch-at c (at + m) n (i - m) (omega arith) ∙ ap (λ (k : ℕ). getD c k 0) back)
     (below-or i m))
 
 -- ---- of two lists
@@ -59,9 +57,7 @@ fetch-left F S at n fits = is-fetch (fetch F at n) (F ++ S) at n (fetch-length F
 pub fetch-right : (F S : List ℕ) (at n : ℕ) → length F ≤ at → fetch S (at - length F) n ≡ fetch (F ++ S) at n
 fetch-right F S at n past =
     is-fetch (fetch S (at - length F) n) (F ++ S) at n (fetch-length S (at - length F) n)
-    (λ i h.
-    let back : at - length F + i ≡ at + i - length F = omega arith in
-    fetch-at S (at - length F) n i h ∙ ap (λ (k : ℕ). getD S k 0) back ∙ sym (second-at F S (at + i) (omega arith)))
+    (λ i h. fetch-at S (at - length F) n i h ∙ sym (second-at F S (at + i) (at - length F + i) (omega arith)))
 
 -- a run of n bytes that leaves F after k of them
 module _ (F S : List ℕ) (at k n : ℕ) (seam : at + k ≡ length F) (long : k ≤ n) where
@@ -173,30 +169,57 @@ put-zeros c l a e ordered fits is =
     ap (λ (x : List ℕ). take a c ++ (x ++ drop (e - a) (drop a c))) (is ∙ ap (λ (k : ℕ). replicate k 0) n)
     ∙ put-lent c (replicate (e - a) 0) a (e - a) (length-replicate (e - a) 0) (omega arith)
 
--- what is read of a list after ys was stored: before it, and itself
-pub put-before : (c ys : List ℕ) (at k : ℕ) → at ≤ length c → k < at → getD (put c at ys) k 0 ≡ getD c k 0
-put-before c ys at k le lt =
-    ap (λ (x : List ℕ). getD x k 0) (put-plain c at ys le)
-    ∙ List·getD-append (take at c) (ys ++ drop (length ys) (drop at c)) 0 k (omega (arith, length-take-le at c le))
-    ∙ getD-take at c k 0 lt
+-- what is read of a list after ys was stored, wherever the list ended: before it, itself, and past it
+pub put-grows : (c : List ℕ) (at : ℕ) (ys : List ℕ) → length c ≤ length (put c at ys)
+unfolding put
+put-grows c at ys = simp (length-append, length-take, length-drop) (omega (arith, length-replicate {A = ℕ} (at - length c) 0))
 
-pub put-at : (c ys : List ℕ) (at i : ℕ) → at ≤ length c → i < length ys → getD (put c at ys) (at + i) 0 ≡ getD ys i 0
-put-at c ys at i le lt =
-    let back : at + i - length (take at c) ≡ i = omega (arith, length-take-le at c le) in
-    let rest = ys ++ drop (length ys) (drop at c) in
-    ap (λ (x : List ℕ). getD x (at + i) 0) (put-plain c at ys le)
-    ∙ second-at (take at c) rest (at + i) (omega (arith, length-take-le at c le))
-    ∙ ap (λ (k : ℕ). getD rest k 0) back
-    ∙ List·getD-append ys (drop (length ys) (drop at c)) 0 i lt
+head-at : (c : List ℕ) (at : ℕ) → length (take at c) + length (replicate {A = ℕ} (at - length c) 0) ≡ at
+head-at c at = omega (arith, length-take at c, length-replicate {A = ℕ} (at - length c) 0)
 
-pub fetch-before : (c ys : List ℕ) (at s n : ℕ) → at ≤ length c → s + n ≤ at → fetch (put c at ys) s n ≡ fetch c s n
-fetch-before c ys at s n le lt =
+pub put-before : (c ys : List ℕ) (at k : ℕ) → k < at → getD (put c at ys) k 0 ≡ getD c k 0
+unfolding put
+put-before c ys at k lt =
+    let gap : List ℕ = replicate (at - length c) 0 in
+    let run = ys ++ drop (length ys) (drop at c) in
+    ⊎-elim
+    (λ (in' : k < length c). List·getD-append (take at c) (gap ++ run) 0 k (omega (arith, length-take at c)) ∙ getD-take at c k 0 lt)
+    (λ (le : length c ≤ k).
+    second-at (take at c) (gap ++ run) k (k - length c) (omega (arith, length-take at c))
+    ∙ List·getD-append gap run 0 (k - length c) (omega (arith, length-replicate {A = ℕ} (at - length c) 0))
+    ∙ getD-replicate (at - length c) (k - length c) 0 0 (omega arith)
+    ∙ sym (List·getD-eq-default c 0 le))
+    (below-or k (length c))
+
+pub put-at : (c ys : List ℕ) (at i : ℕ) → i < length ys → getD (put c at ys) (at + i) 0 ≡ getD ys i 0
+unfolding put
+put-at c ys at i lt =
+    let gap : List ℕ = replicate (at - length c) 0 in
+    let rest = drop (length ys) (drop at c) in
+    second-at (take at c) (gap ++ (ys ++ rest)) (at + i) (length gap + i) (omega (arith, head-at c at))
+    ∙ getD-append-add gap (ys ++ rest) i 0
+    ∙ List·getD-append ys rest 0 i lt
+
+pub put-past : (c ys : List ℕ) (at k : ℕ) → at + length ys ≤ k → getD (put c at ys) k 0 ≡ getD c k 0
+unfolding put
+put-past c ys at k le =
+    let gap : List ℕ = replicate (at - length c) 0 in
+    let rest = drop (length ys) (drop at c) in
+    let j = k - at - length ys in
+    second-at (take at c) (gap ++ (ys ++ rest)) k (length gap + (k - at)) (omega (arith, head-at c at))
+    ∙ getD-append-add gap (ys ++ rest) (k - at) 0
+    ∙ second-at ys rest (k - at) j (omega arith)
+    ∙ getD-drop (length ys) (drop at c) j 0
+    ∙ getD-drop at c (length ys + j) 0
+    ∙ ap (λ (i : ℕ). getD c i 0) (omega arith)
+
+pub fetch-before : (c ys : List ℕ) (at s n : ℕ) → s + n ≤ at → fetch (put c at ys) s n ≡ fetch c s n
+fetch-before c ys at s n lt =
     is-fetch (fetch (put c at ys) s n) c s n (fetch-length (put c at ys) s n)
-    (λ i h. fetch-at (put c at ys) s n i h ∙ put-before c ys at (s + i) le (omega arith))
+    (λ i h. fetch-at (put c at ys) s n i h ∙ put-before c ys at (s + i) (omega arith))
 
-pub fetch-stored : (c ys : List ℕ) (at n : ℕ) → at ≤ length c → length ys ≡ n → fetch (put c at ys) at n ≡ ys
-fetch-stored c ys at n le e =
-    sym (is-fetch ys (put c at ys) at n e (λ i h. sym (put-at c ys at i le (omega arith))))
+pub fetch-stored : (c ys : List ℕ) (at n : ℕ) → length ys ≡ n → fetch (put c at ys) at n ≡ ys
+fetch-stored c ys at n e = sym (is-fetch ys (put c at ys) at n e (λ i h. sym (put-at c ys at i (omega arith))))
 
 -- ---- in two lists
 pub put-left : (F S ys : List ℕ) (at : ℕ) → at + length ys ≤ length F → put F at ys ++ S ≡ put (F ++ S) at ys

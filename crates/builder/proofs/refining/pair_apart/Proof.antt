@@ -57,7 +57,7 @@ returns c =
     ∙ ap (λ (x : List ℕ). fetch x (2 * n) n)
     (at-pair-inside .pair-inside .ensures
     ∙ ap (pairRun (2 * n) 0 n n) (at-fetch-into2 .fetch-into2 .ensures ∙ ap (λ (x : List ℕ). put x n (fetch C (a .r) n)) (at-fetch-into .fetch-into .ensures)))
-    ∙ pair-apart C (now (a .scratch)) (a .l) (a .r) n (entered .pre .room) in
+    ∙ pair-apart C (now (a .scratch)) (a .l) (a .r) n in
     at-store .store .ensures ∙ ap (put C (a .t)) row
 
 pub pair-apart-spec : {M : Type 1} → statement M

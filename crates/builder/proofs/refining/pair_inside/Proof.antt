@@ -52,8 +52,8 @@ loop-again c =
     let a = c .before .before .before .before .before .before .args in
     laid-more (l .inv) (omega arith) (omega arith)
     (c .mean .ensures
-    ∙ ap (λ (x : ℕ). meanOf x (getD (l .frame) (a .r + l .i) 0)) (laid-read (a .l + l .i) (l .inv) (omega arith) (omega arith))
-    ∙ ap (λ (x : ℕ). meanOf (getD (now (a .frame)) (a .l + l .i) 0) x) (laid-read (a .r + l .i) (l .inv) (omega arith) (omega arith)))
+    ∙ ap (λ (x : ℕ). meanOf x (getD (l .frame) (a .r + l .i) 0)) (laid-read (a .l + l .i) (l .inv) (omega arith))
+    ∙ ap (λ (x : ℕ). meanOf (getD (now (a .frame)) (a .l + l .i) 0) x) (laid-read (a .r + l .i) (l .inv) (omega arith)))
 
 same-length : tie.Need-same-length Inv-loop μ-loop
 same-length c = search needs
