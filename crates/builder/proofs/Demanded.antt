@@ -31,8 +31,9 @@ use Rattle.builder.specs.Refining.{planeAt}
 use Rattle.builder.specs.Build.{planesOf}
 use Rattle.builder.specs.Demands.{bytes, Builds, leaves, SameBuild, Differ, withDown, withUp, HalvingDiffers, UpscaleDiffers, ReadsExact, BothBuild}
 use Rattle.builder.proofs.Runs.{row-in}
+use Rattle.builder.proofs.Stored.{pel-more}
 use Rattle.builder.proofs.Same.{offset-same, down-same, up-same, one-there, builds-both}
-use Rattle.builder.proofs.Witness.{Placed, pel-more, sizes, luma, flat, w-is, h-is, unwritten, written, last-means, last-kernel}
+use Rattle.builder.proofs.Witness.{Placed, sizes, luma, flat, w-is, h-is, unwritten, written, last-means, last-kernel}
 
 -- ---- the plane is built
 then-none : (m n : ℕ) → m ≡ 0 → n ≡ 0 → (m then n) ≡ 0
@@ -169,7 +170,7 @@ module _ (v : ℕ) (r : SuperOpts) (p : Packs v r) where
       let lv = leb-true 1 (levelCount r) (and-right (gate && r .full) (leb 1 (levelCount r)) matters) in
       let more = and-left (ltb 1 (pelOf r)) (ltb (toNat (r .gpu)) 2) (and-left gate (r .full) on) in
       let a : ℕ = cond (eqb (pelOf r) 2) 1 2 in
-      let at = placed-at (pelOf r) (pel-more r (p .good) more) in
+      let at = placed-at (pelOf r) (pel-more (luma r) (p .good) more) in
       let ok : (u : ℤ) → (isNat (r .gpu) 0 || isNat u 0) ≡ true = λ u. rw zero' in
       let p0 = filtered-packs v r d (pos 0) p (p .down-fits) refl refl (ok (pos 0)) in
       let p1 = filtered-packs v r d (pos 1) p (p .down-fits) refl refl (ok (pos 1)) in

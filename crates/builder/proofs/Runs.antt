@@ -171,8 +171,7 @@ put-zeros c l a e ordered fits is =
 
 -- what is read of a list after ys was stored, wherever the list ended: before it, itself, and past it
 pub put-grows : (c : List ℕ) (at : ℕ) (ys : List ℕ) → length c ≤ length (put c at ys)
-unfolding put
-put-grows c at ys = simp (length-append, length-take, length-drop) (omega (arith, length-replicate {A = ℕ} (at - length c) 0))
+put-grows c at ys = omega (arith, put-reaches c at ys)
 
 head-at : (c : List ℕ) (at : ℕ) → length (take at c) + length (replicate {A = ℕ} (at - length c) 0) ≡ at
 head-at c at = omega (arith, length-take at c, length-replicate {A = ℕ} (at - length c) 0)

@@ -6,8 +6,8 @@ use Prim.Native.Nat.{ℕ, zero, suc, _+_, _*_, _-_, _/_, _%_, _^_, _≤_, _<_}
 use native.Mathlib.Nat.{mul-assoc, mul-comm, mul-le-mul-right, mul-add-mod-self-left}
 use native.Mathlib.Numerals.{add-one}
 use native.Mathlib.Omega.{arith}
-use lib.Dec.{leb, eqb}
-use borrow.Author.Tests.{le-leb, leb-true, eq-eqb, eqb-true, ne-eqb, eqb-false}
+use lib.Dec.{leb, ltb, eqb}
+use borrow.Author.Tests.{ltb-true, le-leb, leb-true, eq-eqb, eqb-true, ne-eqb, eqb-false}
 use Rattle.settings.specs.Numbers.{toNat, isNat}
 use Rattle.settings.specs.Sizes.{reduce, reduced, levelsIn}
 use Rattle.settings.specs.Check.{accepted, pelOf, lumaW, lumaH}
@@ -57,8 +57,11 @@ pel-cases q e =
     (λ (a : isNat z 4 ≡ true). inr (is 4 a))
     (or-cases (isNat z 1 || isNat z 2) (isNat z 4) (sound (q .opts) (fine (q .opts) e .none) .pel))
 
-pel-some : (q : Layout) → accepted (q .opts) ≡ true → 1 ≤ pelOf (q .opts)
+pub pel-some : (q : Layout) → accepted (q .opts) ≡ true → 1 ≤ pelOf (q .opts)
 pel-some q e = ⊎-elim (⊎-elim (λ a. omega (arith, a)) (λ a. omega (arith, a))) (λ a. omega (arith, a)) (pel-cases q e)
+
+pub pel-more : (q : Layout) → accepted (q .opts) ≡ true → ltb 1 (pelOf (q .opts)) ≡ true → (pelOf (q .opts) ≡ 2) ⊎ (pelOf (q .opts) ≡ 4)
+pel-more q e more = let n = pelOf (q .opts) in ⊎-elim (⊎-elim (λ (h : n ≡ 1). absurd (omega (arith, h, ltb-true 1 n more))) inl) inr (pel-cases q e)
 
 -- ---- tests
 doubled : (w : ℕ) → 2 * w % 8 ≡ 2 * (w % 4)

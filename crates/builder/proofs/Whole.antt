@@ -2,14 +2,14 @@
 use mathlib.Core.Path.{_≡_, refl, sym, ap, subst, _∙_}
 use mathlib.Core.Bool.{Bool, true, false, cond, _&&_, _||_}
 use mathlib.Core.List.{List, _++_}
-use mathlib.Core.Logic.{_⊎_, inl, inr, ⊎-elim}
+use mathlib.Core.Logic.{_⊎_, inl}
 use Prim.Native.Nat.{ℕ, _+_, _*_, _-_, _≤_, _<_}
 use native.Mathlib.Nat.{mul-assoc, mul-le-mul-right}
 use native.Mathlib.Omega.{arith}
 use lib.Dec.{ltb, eqb}
 use lib.ListN.{length, take, replicate}
 use lib.Seq.{take-at}
-use borrow.Author.Tests.{ltb-false, ltb-true, ne-eqb}
+use borrow.Author.Tests.{ltb-false, ne-eqb}
 use Rattle.settings.specs.Limits.{mostPitch}
 use Rattle.settings.specs.Numbers.{refuse, _then_, toNat}
 use Rattle.settings.specs.Check.{pelOf}
@@ -28,7 +28,7 @@ use Rattle.builder.specs.Room.{Ready, Planes}
 use Rattle.builder.proofs.Choices.{cond-yes, cond-no}
 use Rattle.builder.proofs.Runs.{row-in, fetch-length, Inside, inside-put, inside-steps}
 use Rattle.builder.proofs.Layouts.{Allowed, allowed, height-le, offset-first, level-end, width-first}
-use Rattle.builder.proofs.Stored.{pel-cases, width-some, height-some, stored-some, spill-full}
+use Rattle.builder.proofs.Stored.{pel-more, width-some, height-some, stored-some, spill-full}
 use Rattle.builder.proofs.Prepared.{source-need}
 
 -- ---- what the refusals leave
@@ -123,9 +123,8 @@ refining q a e =
     let n = pelOf (q .opts) in
     let pel = ltb 1 n in
     let gpu = ltb (toNat (q .opts .gpu)) 2 in
-    let more : 1 < n = ltb-true 1 n (and-left pel gpu (and-left (pel && gpu) (q .opts .full) e)) in
     record {
-      pel = ⊎-elim (⊎-elim (λ (h : n ≡ 1). absurd (omega (arith, h, more))) inl) inr (pel-cases q (a .good));
+      pel = pel-more q (a .good) (and-left pel gpu (and-left (pel && gpu) (q .opts .full) e));
       full = and-right (pel && gpu) (q .opts .full) e;
     }
 

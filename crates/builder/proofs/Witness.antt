@@ -4,20 +4,20 @@
 use mathlib.Core.Path.{_≡_, refl, sym, ap, _∙_, subst}
 use mathlib.Core.List.{List, _++_}
 use mathlib.Core.Bool.{Bool, true, false, cond, _&&_, _||_}
-use mathlib.Core.Logic.{_⊎_, inl, inr, ⊎-elim}
+use mathlib.Core.Logic.{_⊎_, inl, ⊎-elim}
 use Prim.Native.Nat.{ℕ, suc, _+_, _*_, _-_, _≤_, _<_}
 use native.Mathlib.Nat.{mul-comm, mul-assoc, one-mul}
 use native.Mathlib.Omega.{arith}
 use lib.Dec.{ltb}
 use lib.ListN.{length, getD, replicate, length-append, length-replicate, getD-replicate, List·getD-append}
 use lib.Seq.{getD-take}
-use borrow.Author.Tests.{ne-eqb, ltb-true}
+use borrow.Author.Tests.{ne-eqb}
 use Rattle.settings.specs.declared.super_opts.SuperOpts.{SuperOpts}
 use Rattle.settings.specs.Numbers.{total, isNat, toNat}
 use Rattle.settings.specs.Sizes.{reduced}
 use Rattle.settings.specs.Check.{accepted, pelOf, lumaW, lumaH, levelCount}
-use Rattle.settings.proofs.Tests.{and-left, and-right, or-cases}
-use Rattle.settings.proofs.Accepted.{fine, sound, is-nat-pos}
+use Rattle.settings.proofs.Tests.{and-left, and-right}
+use Rattle.settings.proofs.Accepted.{fine}
 use Rattle.settings.proofs.Told.{clash}
 use Rattle.filters.specs.declared.halving.ReduceFilter.the-variants.{Average}
 use Rattle.filters.specs.declared.halving.Chosen.{Chosen}
@@ -37,30 +37,10 @@ use Rattle.builder.specs.Build.{planesOf, copied, halveLevel, halved, re
 use Rattle.builder.specs.Demands.{Given, leaves}
 use Rattle.builder.proofs.Runs.{row-in}
 use Rattle.builder.proofs.Layouts.{offset-first, offset-mono}
-use Rattle.builder.proofs.Stored.{sides}
+use Rattle.builder.proofs.Stored.{pel-some, pel-more, sides}
 use Rattle.builder.proofs.Kept.{Has, Four, In, cases, steps-keep, steps-first, copied-grows, copied-has, copied-margin, copied-past, level-keeps, stored-first, source-first, plane-after, fold-keeps, half-keeps, half-means, half-kernel}
 
--- ---- an accepted record
-pub pels : (r : SuperOpts) → accepted r ≡ true → (pelOf r ≡ 1) ⊎ ((pelOf r ≡ 2) ⊎ (pelOf r ≡ 4))
-pels r e =
-    let is : (n : ℕ) → isNat (r .pel) n ≡ true → pelOf r ≡ n = λ n h. ap toNat (is-nat-pos (r .pel) n h) in
-    ⊎-elim
-    (λ (h : (isNat (r .pel) 1 || isNat (r .pel) 2) ≡ true).
-    ⊎-elim (λ (a : isNat (r .pel) 1 ≡ true). inl (is 1 a)) (λ (a : isNat (r .pel) 2 ≡ true). inr (inl (is 2 a))) (or-cases (isNat (r .pel) 1) (isNat (r .pel) 2) h))
-    (λ (a : isNat (r .pel) 4 ≡ true). inr (inr (is 4 a)))
-    (or-cases (isNat (r .pel) 1 || isNat (r .pel) 2) (isNat (r .pel) 4) (sound r (fine r e .none) .pel))
-
-pel-some : (r : SuperOpts) → accepted r ≡ true → 1 ≤ pelOf r
-pel-some r e =
-    ⊎-elim
-    (λ (a : pelOf r ≡ 1). omega (arith, a))
-    (λ (a : (pelOf r ≡ 2) ⊎ (pelOf r ≡ 4)). ⊎-elim (λ (b : pelOf r ≡ 2). omega (arith, b)) (λ (b : pelOf r ≡ 4). omega (arith, b)) a)
-    (pels r e)
-
-pub pel-more : (r : SuperOpts) → accepted r ≡ true → ltb 1 (pelOf r) ≡ true → (pelOf r ≡ 2) ⊎ (pelOf r ≡ 4)
-pel-more r e more = ⊎-elim (λ (a : pelOf r ≡ 1). absurd (omega (arith, a, ltb-true 1 (pelOf r) more))) (λ a. a) (pels r e)
-
--- one with a level is 4 by 4 at least
+-- ---- an accepted record with a level is 4 by 4 at least
 pub sizes : (r : SuperOpts) → accepted r ≡ true → 1 ≤ levelCount r → (4 ≤ lumaW r) × (4 ≤ lumaH r)
 unfolding reduced
 sizes r e lv = sides (lumaW r) (lumaW r) (lumaH r) 0 (omega (arith, ap toNat (fine r e .levels)))
@@ -198,7 +178,7 @@ module _ (x : SuperOpts) (good : accepted x ≡ true) (lv : 1 ≤ levelCount x) 
   level1-past : x .full ≡ true → heightAt q 0 * P ≤ t1
   level1-past e =
       let k = pelOf x * pelOf x in
-      let one : 1 ≤ k = omega (arith, row-in 0 (pelOf x) (pelOf x) (pel-some x good), pel-some x good) in
+      let one : 1 ≤ k = omega (arith, row-in 0 (pelOf x) (pelOf x) (pel-some q good), pel-some q good) in
       omega (arith, level1-at e, row-in 0 k (heightAt q 0 * P) one)
 
   level1-end : t1 ≤ end
@@ -246,7 +226,7 @@ module _ (x : SuperOpts) (good : accepted x ≡ true) (lv : 1 ≤ levelCount x) 
       (λ e.
       let full = and-right (ltb 1 (pelOf x) && ltb (toNat (x .gpu)) 2) (x .full) e in
       let more = and-left (ltb 1 (pelOf x)) (ltb (toNat (x .gpu)) 2) (and-left (ltb 1 (pelOf x) && ltb (toNat (x .gpu)) 2) (x .full) e) in
-      refine-keeps (planesOf q) (pelOf x) (upscale (x .«scale_up»)) (pel-more x good more) (omega (arith, w-is)) (omega (arith, h-is, hh)) (level1-in full) d has)
+      refine-keeps (planesOf q) (pelOf x) (upscale (x .«scale_up»)) (pel-more q good more) (omega (arith, w-is)) (omega (arith, h-is, hh)) (level1-in full) d has)
       (λ e. has)
 
   module _ (two : 2 ≤ levelCount x) where
