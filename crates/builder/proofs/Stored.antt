@@ -47,7 +47,7 @@ halved-some d (suc zero) le h = omega arith
 halved-some d (suc (suc s)) le h = absurd (omega arith)
 
 -- an accepted pel is 1, 2 or 4
-pub pel-cases : (q : Layout) → accepted (q .opts) ≡ true → ((pelOf (q .opts) ≡ 1) ⊎ (pelOf (q .opts) ≡ 2)) ⊎ (pelOf (q .opts) ≡ 4)
+pel-cases : (q : Layout) → accepted (q .opts) ≡ true → ((pelOf (q .opts) ≡ 1) ⊎ (pelOf (q .opts) ≡ 2)) ⊎ (pelOf (q .opts) ≡ 4)
 pel-cases q e =
     let z = q .opts .pel in
     let is : (n : ℕ) → isNat z n ≡ true → toNat z ≡ n = λ n h. ap toNat (is-nat-pos z n h) in
