@@ -1,6 +1,6 @@
 -- Laws of refining: a row stored in the list that it is read of; a row of a pair, and the rows around one; planes that lie in a frame; stages that stay inside it; the stages one after the other; last the table of pairs. Assumes nothing.
-use mathlib.Core.Bool.{Bool, true, false, _&&_}
-use mathlib.Core.Logic.{_⊎_, ⊎-elim}
+use mathlib.Core.Bool.{Bool, true, false, _&&_, _||_}
+use mathlib.Core.Logic.{_⊎_, inl, inr, ⊎-elim}
 use mathlib.Core.Path.{_≡_, refl, sym, ap, _∙_, subst}
 use mathlib.Core.List.{List, [], _∷_, _++_, append-assoc}
 use Prim.Native.Nat.{ℕ, zero, suc, _+_, _*_, _-_, _≤_, _<_}
@@ -10,6 +10,8 @@ use native.Mathlib.Omega.{arith}
 use lib.Dec.{T, leb, leb→le}
 use lib.ListN.{length, getD, take, drop, set, length-append, length-drop, length-set, take-append-drop}
 use lib.Seq.{drop-cons, set-at, append-snoc, length-take-le}
+use borrow.Author.Tests.{leb-true}
+use Rattle.settings.proofs.Tests.{or-cases}
 use Rattle.filters.specs.Row.{tab, meanOf, meansOf}
 use Rattle.filters.specs.Refine.{halfHorizontal, halfVertical}
 use Rattle.filters.specs.declared.half_pel.HalfPel.{HalfPel}
@@ -20,13 +22,13 @@ use Rattle.builder.specs.declared.refining.Interp.{Interp}
 use Rattle.builder.specs.declared.refining.Pair.{Pair}
 use Rattle.builder.specs.Refining.{pairRun, pairPlane, horizontalPlane, verticalRun, verticalPlane, planeAt, meanPlanes, kernelPlanes, pairOf, pairs, quarter, foldPairs}
 use Rattle.builder.specs.Room.{PairPlane, OnePlane, Planes, Halves, Quarter}
-use Rattle.builder.proofs.Runs.{Inside, inside-put, inside-then, inside-steps, row-in, row-fits, fetch-at, fetch-length, fetch-left, fetch-before, fetch-stored, put-plain, put-before, put-left}
+use Rattle.builder.proofs.Runs.{Inside, inside-put, inside-then, inside-steps, row-in, row-fits, fetch-at, fetch-length, fetch-left, fetch-before, fetch-stored, put-plain, put-before, put-past, put-left}
 
 tab-next : (f : ℕ → ℕ) (n : ℕ) → tab f (n + 1) ≡ tab f n ++ (f n ∷ [])
 unfolding tab
 tab-next f n = rw (add-one n)
 
--- ---- a loop that stores a row at t, byte by byte, into the list that it reads before t
+-- ---- a loop that stores a row at t, byte by byte, into the list that it reads before t and from the byte that it stores on
 -- one more byte of the row
 put-more : (f : ℕ → ℕ) (c : List ℕ) (t i v : ℕ) → t + i < length c → v ≡ f i → set (put c t (tab f i)) (t + i) v ≡ put c t (tab f (i + 1))
 put-more f c t i v room e =
@@ -67,9 +69,11 @@ laid-more {f} {c₀} {c} {t} {n} {i} {v} h lt room e =
 pub laid-whole : {f : ℕ → ℕ} {c₀ c : List ℕ} {t n i : ℕ} → Laid f c₀ c t n i → n ≤ i → c ≡ put c₀ t (tab f n)
 laid-whole {f} {c₀} {c} {t} {n} {i} h le = let e : i ≡ n = omega arith in h .is ∙ ap (λ (k : ℕ). put c₀ t (tab f k)) e
 
--- a byte before t, read in the loop
-pub laid-read : {f : ℕ → ℕ} {c₀ c : List ℕ} {t n i : ℕ} (k : ℕ) → Laid f c₀ c t n i → k < t → getD c k 0 ≡ getD c₀ k 0
-laid-read {f} {c₀} {c} {t} {n} {i} k h lt = ap (λ (x : List ℕ). getD x k 0) (h .is) ∙ put-before c₀ (tab f i) t k lt
+-- a byte before t or not laid over yet, read in the loop
+pub laid-read : {f : ℕ → ℕ} {c₀ c : List ℕ} {t n i : ℕ} (k : ℕ) → Laid f c₀ c t n i → (k < t) ⊎ (t + i ≤ k) → getD c k 0 ≡ getD c₀ k 0
+laid-read {f} {c₀} {c} {t} {n} {i} k h where-it-is =
+    ap (λ (x : List ℕ). getD x k 0) (h .is)
+    ∙ ⊎-elim (λ (lt : k < t). put-before c₀ (tab f i) t k lt) (λ (past : t + i ≤ k). put-past c₀ (tab f i) t k (omega (arith, tab-length f i))) where-it-is
 
 -- the loop's rule
 abbrev pub meanAt : List ℕ → ℕ → ℕ → ℕ → ℕ
@@ -83,6 +87,9 @@ pair-laid c t l r n =
     (λ i lt. ap (λ (x : ℕ). meanOf x (getD c (r + i) 0)) (sym (fetch-at c l n i lt)) ∙ ap (meanOf (getD (fetch c l n) i 0)) (sym (fetch-at c r n i lt))))
 
 -- ---- one row of a pair
+pub before-or-after : (s t e : ℕ) → (leb e t || leb t s) ≡ true → (e ≤ t) ⊎ (t ≤ s)
+before-or-after s t e h = ⊎-elim (λ (a : leb e t ≡ true). inl (leb-true e t a)) (λ (b : leb t s ≡ true). inr (leb-true t s b)) (or-cases (leb e t) (leb t s) h)
+
 -- inside the frame
 pub pair-left : (F S : List ℕ) (t l r n : ℕ) → l + n ≤ length F → r + n ≤ length F → t + n ≤ length F → pairRun t l r n F ++ S ≡ pairRun t l r n (F ++ S)
 unfolding pairRun

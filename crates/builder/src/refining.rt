@@ -35,9 +35,9 @@ pub struct Pair {
     pub below: usize,
 }
 
-// By index in the one slice, both rows ending before the target.
+// By index in the one slice. The left row ends before the target, and the right one does or doesn't begin before it: no byte is laid over before it is read.
 fn pair_inside(frame: &mut [u8], t: usize, l: usize, r: usize, n: usize)
-    requires { ⌜ (l + n ≤ t) × (r + n ≤ t) × (t + n ≤ length (now frame)) ⌝ }
+    requires { ⌜ (l + n ≤ t) × ((r + n ≤ t) ⊎ (t ≤ r)) × (r + n ≤ length (now frame)) × (t + n ≤ length (now frame)) ⌝ }
     ensures { λ q. ⌜ now (frame .exit) ≡ pairRun t l r n (now (frame .entry)) ⌝ }
 {
     for i in 0..n {
@@ -85,10 +85,12 @@ fn pair_row(
     ensures { λ q. ⌜ now (frame .exit) ++ now (spill .exit) ≡ pairRun t l r n (now (frame .entry) ++ now (spill .entry)) ⌝ }
 {
     if l + n <= t {
-        if r + n <= t {
-            if t + n <= frame.len() {
-                pair_inside(frame, t, l, r, n);
-                return;
+        if t + n <= frame.len() {
+            if r + n <= frame.len() {
+                if (r + n <= t) | (t <= r) {
+                    pair_inside(frame, t, l, r, n);
+                    return;
+                }
             }
         }
     }

@@ -1,7 +1,9 @@
 -- `pair_apart` meets its contract. Assumes nothing.
+use mathlib.Core.Logic.{inl}
 use mathlib.Core.Path.{ap, _∙_}
 use mathlib.Core.List.{List, _++_}
 use Prim.Native.Nat.{ℕ, _+_, _*_}
+use native.Mathlib.Omega.{arith}
 use denote.Ref.{now}
 use borrow.Author.Needs.{needs}
 use Rattle.builder.specs.Canvas.{fetch, put}
@@ -20,7 +22,7 @@ mul-pair-inside : tie.Need-mul-pair-inside
 mul-pair-inside c = search needs
 
 pair-inside-requires : tie.Need-pair-inside-requires
-pair-inside-requires c κs = search needs
+pair-inside-requires c κs = (omega arith, inl (omega arith), omega arith, omega arith)
 
 mul-span : tie.Need-mul-span
 mul-span c = search needs

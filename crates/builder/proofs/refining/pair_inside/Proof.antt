@@ -1,6 +1,7 @@
 -- `pair_inside` meets its contract. The loop has laid the bytes passed. Assumes nothing.
+use mathlib.Core.Logic.{_⊎_, inl, inr, ⊎-elim}
 use mathlib.Core.Path.{ap, _∙_}
-use Prim.Native.Nat.{ℕ, _+_, _-_}
+use Prim.Native.Nat.{ℕ, _+_, _-_, _≤_, _<_}
 use native.Mathlib.Omega.{arith}
 use lib.ListN.{getD}
 use denote.Ref.{now}
@@ -49,11 +50,14 @@ loop-less c = omega arith
 loop-again : tie.Need-loop-again Inv-loop μ-loop
 loop-again c =
     let l = c .before .before .before .before .loop in
-    let a = c .before .before .before .before .before .before .args in
+    let entered = c .before .before .before .before .before .before in
+    let a = entered .args in
+    let right : (a .r + l .i < a .t) ⊎ (a .t + l .i ≤ a .r + l .i) =
+    ⊎-elim (λ (h : a .r + a .n ≤ a .t). inl (omega arith)) (λ (h : a .t ≤ a .r). inr (omega arith)) (entered .pre .1) in
     laid-more (l .inv) (omega arith) (omega arith)
     (c .mean .ensures
-    ∙ ap (λ (x : ℕ). meanOf x (getD (l .frame) (a .r + l .i) 0)) (laid-read (a .l + l .i) (l .inv) (omega arith))
-    ∙ ap (λ (x : ℕ). meanOf (getD (now (a .frame)) (a .l + l .i) 0) x) (laid-read (a .r + l .i) (l .inv) (omega arith)))
+    ∙ ap (λ (x : ℕ). meanOf x (getD (l .frame) (a .r + l .i) 0)) (laid-read (a .l + l .i) (l .inv) (inl (omega arith)))
+    ∙ ap (λ (x : ℕ). meanOf (getD (now (a .frame)) (a .l + l .i) 0) x) (laid-read (a .r + l .i) (l .inv) right))
 
 same-length : tie.Need-same-length Inv-loop μ-loop
 same-length c = search needs

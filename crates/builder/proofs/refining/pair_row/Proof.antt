@@ -5,7 +5,7 @@ use Prim.Native.Nat.{ℕ, _+_}
 use native.Mathlib.Omega.{arith}
 use denote.Ref.{now}
 use borrow.Author.Needs.{needs}
-use Rattle.builder.proofs.Refined.{pair-left}
+use Rattle.builder.proofs.Refined.{before-or-after, pair-left}
 use Rattle.builder.proofs.refining.pair_row.Statement.{statement}
 use Rattle.builder.proofs.refining.pair_row.Tie as tie
 
@@ -18,8 +18,17 @@ add-if2 c = search needs
 add-if3 : tie.Need-add-if3
 add-if3 c = search needs
 
+add-if4 : tie.Need-add-if4
+add-if4 c = search needs
+
 pair-inside-requires : tie.Need-pair-inside-requires
-pair-inside-requires c κs = search needs
+pair-inside-requires c κs =
+    let at-if4 = c .before in
+    let at-if3 = at-if4 .before in
+    let at-if2 = at-if3 .before in
+    let at-if1 = at-if2 .before in
+    let a = at-if1 .before .before .before .before .args in
+    (at-if1 .if1 .taken, before-or-after (a .r) (a .t) (a .r + a .n) (at-if4 .if4 .taken), at-if3 .if3 .taken, at-if2 .if2 .taken)
 
 same-length : tie.Need-same-length
 same-length c = search needs
@@ -27,13 +36,12 @@ same-length c = search needs
 returns : tie.Need-returns
 returns c =
     let at-pair-inside = c .before .before in
-    let at-if3 = at-pair-inside .before .before in
+    let at-if3 = at-pair-inside .before .before .before in
     let at-if2 = at-if3 .before in
     let at-if1 = at-if2 .before in
-    let entered = at-if1 .before .before .before .before in
-    let a = entered .args in
+    let a = at-if1 .before .before .before .before .args in
     ap (λ (x : List ℕ). x ++ now (a .spill)) (at-pair-inside .pair-inside .ensures)
-    ∙ pair-left (now (a .frame)) (now (a .spill)) (a .t) (a .l) (a .r) (a .n) (omega (arith, at-if1 .if1 .taken, at-if3 .if3 .taken)) (omega (arith, at-if2 .if2 .taken, at-if3 .if3 .taken)) (at-if3 .if3 .taken)
+    ∙ pair-left (now (a .frame)) (now (a .spill)) (a .t) (a .l) (a .r) (a .n) (omega (arith, at-if1 .if1 .taken, at-if2 .if2 .taken)) (at-if3 .if3 .taken) (at-if2 .if2 .taken)
 
 pair-apart-requires : tie.Need-pair-apart-requires
 pair-apart-requires c κs = search needs
@@ -57,6 +65,7 @@ pair-row-spec =
     add-if1
     add-if2
     add-if3
+    add-if4
     pair-inside-requires
     same-length
     returns
