@@ -98,9 +98,9 @@ fn differs(a: &[u8], from: usize, b: &[u8], other: usize, i: usize) -> bool {
     a[from + i] != b[other + i]
 }
 
-// Byte 161 of a frame of len bytes of 255, from a source of zeros: 16x24, pel 1, not full, shifts 1 and 0, pitch 10.
+// Byte 161 of a frame of len bytes, zeros but for 255s past the written end, 180, from a source of zeros: 16x24, pel 1, not full, shifts 1 and 0, pitch 10.
 fn past_end(len: usize) -> u32 {
-    let mut frame = [255u8; 260];
+    let mut frame = [0u8; 260];
     byte_built(&mut frame, len)
 }
 
@@ -110,6 +110,7 @@ fn byte_built(frame: &mut [u8], len: usize) -> u32 {
     }
     let src = [0u8; 192];
     let part = &mut frame[..len];
+    fill_past(part, 180);
     if built(part, unfull_layout(), &src, 8) != 0 {
         return 98;
     }
@@ -117,6 +118,13 @@ fn byte_built(frame: &mut [u8], len: usize) -> u32 {
         return 97;
     }
     wide(part[161])
+}
+
+fn fill_past(frame: &mut [u8], end: usize) {
+    let n = frame.len();
+    for i in end..n {
+        frame[i] = 255;
+    }
 }
 
 fn unfull_layout() -> Layout {

@@ -15,6 +15,9 @@ slice-relend-prefix-part c = search needs
 slice-aggregate-part : tie.Need-slice-aggregate-part
 slice-aggregate-part c = let s = c .before .before .before .args in sym (length-take-le (s .len) (now (s .frame)) (c .before .if1 .left))
 
+fill-past-requires : tie.Need-fill-past-requires
+fill-past-requires c κs = search needs
+
 unfull-layout-requires : tie.Need-unfull-layout-requires
 unfull-layout-requires c κs = search needs
 
@@ -55,6 +58,7 @@ byte-built-spec =
     returns
     slice-relend-prefix-part
     slice-aggregate-part
+    fill-past-requires
     unfull-layout-requires
     slice-aggregate-built
     built-requires
