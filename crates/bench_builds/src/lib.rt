@@ -1,6 +1,4 @@
 // Whole builds for a program in C: what bench/run links and counts. Levels are halved by cubic; the source's rows and the frame's stand without gaps, and the frame ends where its last level does.
-ghost use Prim.Native.Nat.{_≤_};
-ghost use lib.ListN.{length};
 use builder::build::build_plane;
 use builder::layout::Ended;
 use builder::layout::Layout;
