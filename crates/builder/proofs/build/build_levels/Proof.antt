@@ -42,13 +42,13 @@ refine-planes-requires c κs =
     (r .layout, some at-if1, omega (arith, r .end, k .0, at-copy-rows .copy-rows .kept .0), omega (arith, r .spills, k .1 .0), omega (arith, r .room, k .1 .1 .0))
 
 same-length : tie.Need-same-length
-same-length c = search needs
+same-length c = c .before .before .before .before .before .before .refine-planes .kept .0 ∙ c .before .before .before .before .before .before .before .before .before .before .before .before .before .before .before .before .reduce-levels .kept .0 ∙ c .before .before .before .before .before .before .before .before .before .before .before .before .before .before .before .before .before .before .before .before .before .before .copy-rows .kept .0
 
 same-length-2 : tie.Need-same-length-2
-same-length-2 c = search needs
+same-length-2 c = c .before .before .before .before .before .before .refine-planes .kept .1 .0 ∙ c .before .before .before .before .before .before .before .before .before .before .before .before .before .before .before .before .reduce-levels .kept .1 .0
 
 same-length-3 : tie.Need-same-length-3
-same-length-3 c = search needs
+same-length-3 c = c .before .before .before .before .before .before .refine-planes .kept .1 .1 .0 ∙ c .before .before .before .before .before .before .before .before .before .before .before .before .before .before .before .before .reduce-levels .kept .1 .1 .0
 
 returns-2 : tie.Need-returns-2
 returns-2 c =

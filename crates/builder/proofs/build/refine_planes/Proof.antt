@@ -48,13 +48,13 @@ refine-requires c κs =
     _ _ _ (pre .0) (pre .1) (pre .2) (pre .3) (pre .4)
 
 same-length : tie.Need-same-length
-same-length c = search needs
+same-length c = c .before .before .before .before .before .before .refine .kept .0
 
 same-length-2 : tie.Need-same-length-2
-same-length-2 c = search needs
+same-length-2 c = c .before .before .before .before .before .before .refine .kept .1 .0
 
 same-length-3 : tie.Need-same-length-3
-same-length-3 c = search needs
+same-length-3 c = c .before .before .before .before .before .before .refine .kept .1 .1 .0
 
 chosen : (c : tie.After-from-option) → c .from-option .result ≡ upscale (c .before .before .before .before .before .before .before .before .before .before .before .before .before .args .layout .opts .«scale_up»)
 chosen c = c .from-option .ensures ∙ ap upscale (toZ-ofZ {w = w32} (search needs))

@@ -34,13 +34,13 @@ store-requires : tie.Need-store-requires
 store-requires c κs = search needs
 
 same-length : tie.Need-same-length
-same-length c = search needs
+same-length c = c .before .before .before .before .store .kept .0
 
 same-length-2 : tie.Need-same-length-2
-same-length-2 c = search needs
+same-length-2 c = c .before .before .before .before .store .kept .1 .0
 
 same-length-3 : tie.Need-same-length-3
-same-length-3 c = search needs
+same-length-3 c = c .before .before .before .before .before .before .before .before .before .before .before .pair-inside .kept .0 ∙ c .before .before .before .before .before .before .before .before .before .before .before .before .before .before .before .fetch-into2 .kept .0 ∙ c .before .before .before .before .before .before .before .before .before .before .before .before .before .before .before .before .before .before .before .before .before .fetch-into .kept .0
 
 returns : tie.Need-returns
 unfolding pairRun

@@ -31,7 +31,7 @@ pair-inside-requires c κs =
     (at-if1 .if1 .taken, before-or-after (a .r) (a .t) (a .r + a .n) (at-if4 .if4 .taken), at-if3 .if3 .taken, at-if2 .if2 .taken)
 
 same-length : tie.Need-same-length
-same-length c = search needs
+same-length c = c .before .before .pair-inside .kept .0
 
 returns : tie.Need-returns
 returns c =
@@ -47,13 +47,13 @@ pair-apart-requires : tie.Need-pair-apart-requires
 pair-apart-requires c κs = search needs
 
 same-length-2 : tie.Need-same-length-2
-same-length-2 c = search needs
+same-length-2 c = c .before .before .before .before .before .before .pair-apart .kept .0
 
 same-length-3 : tie.Need-same-length-3
-same-length-3 c = search needs
+same-length-3 c = c .before .before .before .before .before .before .pair-apart .kept .1 .0
 
 same-length-4 : tie.Need-same-length-4
-same-length-4 c = search needs
+same-length-4 c = c .before .before .before .before .before .before .pair-apart .kept .1 .1 .0
 
 returns-2 : tie.Need-returns-2
 returns-2 c = search needs

@@ -55,13 +55,13 @@ pair-requires c κs =
     quarter-fits _ _ _ _ (entered .pre .1) (entered .pre .0) (entered .pre .2) (at-plane .plane .ensures) (at-plane2 .plane2 .ensures) (at-plane3 .plane3 .ensures)
 
 same-length : tie.Need-same-length
-same-length c = search needs
+same-length c = c .before .before .before .before .before .before .pair .kept .1 .0
 
 same-length-2 : tie.Need-same-length-2
-same-length-2 c = search needs
+same-length-2 c = c .before .before .before .before .before .before .pair .kept .1 .1 .0
 
 same-length-3 : tie.Need-same-length-3
-same-length-3 c = search needs
+same-length-3 c = c .before .before .before .before .before .before .pair .kept .1 .1 .1 .0
 
 returns : tie.Need-returns
 returns c =

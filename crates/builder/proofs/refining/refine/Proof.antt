@@ -17,13 +17,13 @@ half-planes-requires c κs =
     (halves-two, planes-at (at-if1 .if1 .taken) (entered .pre .1), entered .pre .2)
 
 same-length : tie.Need-same-length
-same-length c = search needs
+same-length c = c .before .before .before .before .before .before .half-planes .kept .1 .0
 
 same-length-2 : tie.Need-same-length-2
-same-length-2 c = search needs
+same-length-2 c = c .before .before .before .before .before .before .half-planes .kept .1 .1 .0
 
 same-length-3 : tie.Need-same-length-3
-same-length-3 c = search needs
+same-length-3 c = c .before .before .before .before .before .before .half-planes .kept .1 .1 .1 .0
 
 returns : tie.Need-returns
 unfolding refine
@@ -49,13 +49,13 @@ quarters-requires c κs =
     (planes-kept (planes-at (pel-four (entered .pre .0) (at-if1 .if1 .left)) (entered .pre .1)) (k .0) (k .1 .1 .0), omega (arith, entered .pre .2, k .1 .0))
 
 same-length-4 : tie.Need-same-length-4
-same-length-4 c = search needs
+same-length-4 c = c .before .before .before .before .before .before .quarters .kept .0 ∙ c .before .before .before .before .before .before .before .before .before .before .before .before .before .before .before .before .half-planes2 .kept .1 .0
 
 same-length-5 : tie.Need-same-length-5
-same-length-5 c = search needs
+same-length-5 c = c .before .before .before .before .before .before .quarters .kept .1 .0 ∙ c .before .before .before .before .before .before .before .before .before .before .before .before .before .before .before .before .half-planes2 .kept .1 .1 .0
 
 same-length-6 : tie.Need-same-length-6
-same-length-6 c = search needs
+same-length-6 c = c .before .before .before .before .before .before .quarters .kept .1 .1 .0 ∙ c .before .before .before .before .before .before .before .before .before .before .before .before .before .before .before .before .half-planes2 .kept .1 .1 .1 .0
 
 returns-2 : tie.Need-returns-2
 unfolding refine

@@ -24,13 +24,13 @@ kernel-planes-requires : tie.Need-kernel-planes-requires
 kernel-planes-requires c κs = search needs
 
 same-length : tie.Need-same-length
-same-length c = search needs
+same-length c = c .before .before .before .before .before .before .mean-planes .kept .1 .0
 
 same-length-2 : tie.Need-same-length-2
-same-length-2 c = search needs
+same-length-2 c = c .before .before .before .before .before .before .mean-planes .kept .1 .1 .0
 
 same-length-3 : tie.Need-same-length-3
-same-length-3 c = search needs
+same-length-3 c = c .before .before .before .before .before .before .mean-planes .kept .1 .1 .1 .0
 
 returns : tie.Need-returns
 unfolding halfPlanes
@@ -42,10 +42,10 @@ returns c =
     at-mean-planes .mean-planes .ensures ∙ ap (λ (u : Upscale). halfPlanes u (a .self) (a .a) (a .b) (a .d) (now (a .frame) ++ now (a .spill))) (sym (at-enum-told .enum-told .given .1))
 
 same-length-4 : tie.Need-same-length-4
-same-length-4 c = search needs
+same-length-4 c = c .before .before .before .before .kernel-planes .kept .1 .1 .0
 
 same-length-5 : tie.Need-same-length-5
-same-length-5 c = search needs
+same-length-5 c = c .before .before .before .before .kernel-planes .kept .1 .1 .1 .0
 
 returns-2 : tie.Need-returns-2
 unfolding halfPlanes

@@ -29,13 +29,13 @@ copy-first-row-requires c κs =
     first-row-fits (planes-kept (entered .pre .1) (at-pair .pair .kept .1 .0) (at-pair .pair .kept .1 .1 .1 .0)) (entered .args .k) _ (entered .args .s) (omega arith) (at-plane .plane .ensures) (entered .pre .0 .first)
 
 same-length : tie.Need-same-length
-same-length c = search needs
+same-length c = c .before .before .before .before .copy-first-row .kept .1 .0 ∙ c .before .before .before .before .before .before .before .before .before .before .before .before .before .pair .kept .1 .0
 
 same-length-2 : tie.Need-same-length-2
-same-length-2 c = search needs
+same-length-2 c = c .before .before .before .before .before .before .before .before .before .before .before .before .before .pair .kept .1 .1 .0
 
 same-length-3 : tie.Need-same-length-3
-same-length-3 c = search needs
+same-length-3 c = c .before .before .before .before .copy-first-row .kept .1 .1 .0 ∙ c .before .before .before .before .before .before .before .before .before .before .before .before .before .pair .kept .1 .1 .1 .0
 
 returns : tie.Need-returns
 returns c =
