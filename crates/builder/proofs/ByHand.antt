@@ -1,9 +1,11 @@
--- Document 01, "Checked by hand": its entry on the layout, computed; and "target width 8 fuses, 7 and 10 don't". Assumes nothing.
+-- Document 01, "Checked by hand": its entry on the layout, computed; "target width 8 fuses, 7 and 10 don't"; and the whole table, with the entries of the crates below. Assumes nothing.
 use mathlib.Core.Path.{_≡_, refl}
 use mathlib.Core.Bool.{Bool, true, false}
 use mathlib.Core.List.{List, [], _∷_}
 use Prim.Native.Nat.{ℕ}
 use lib.IntN.{pos}
+use Rattle.settings.proofs.ByHand.{computed as sizesComputed, said as sizesSaid, by-hand as sizes-by-hand}
+use Rattle.filters.proofs.ByHand.{ByHand as Rows, by-hand as rows-by-hand}
 use Rattle.settings.specs.Numbers.{total}
 use Rattle.settings.specs.Sizes.{reduced, levelsIn}
 use Rattle.settings.specs.Check.{settingsNo, accepted}
@@ -65,3 +67,15 @@ fuses =
 pub fuses-said : fuses ≡ (true ∷ false ∷ false ∷ [])
 unfolding fuses plane fusedAt cubicFits reduced offsetAt total
 fuses-said = refl
+
+-- ---- the table
+pub record Table : Type 0 where
+  -- reducing, levels, the default word
+  pub sizes : sizesComputed ≡ sizesSaid
+  -- means, kernels, a halved row
+  pub rows : Rows
+  pub layout : computed ≡ said
+  pub widths : fuses ≡ (true ∷ false ∷ false ∷ [])
+
+pub table : Table
+table = record { sizes = sizes-by-hand; rows = rows-by-hand; layout = by-hand; widths = fuses-said }
