@@ -117,10 +117,6 @@ pub vertical-rows : (k : HalfPel) (i : Interp) (s y n a2 a1 : ℕ) (F m2 m1 c0 p
 unfolding verticalRun
 vertical-rows k i s y n a2 a1 F m2 m1 c0 p1 p2 p3 e b2 b1 f2 f1 g0 g1 g2 g3 = rw (e, f2, f1, g0, g1, g2, g3, b2, b1)
 
--- ---- a canvas whose frame and spill kept their lengths
-pub both-lengths : (F S G T : List ℕ) → length F ≡ length G → length S ≡ length T → length (F ++ S) ≡ length (G ++ T)
-both-lengths F S G T e f = length-append F S ∙ omega (arith, length-append G T)
-
 -- ---- k planes in a frame
 module _ {k len scratch : ℕ} {i : Interp} (P : Planes k len scratch i) where
   pub plane-fits : (j t : ℕ) → j < k → t ≡ planeAt i j → t + i .height * i .pitch ≤ len

@@ -277,6 +277,10 @@ pub steps-next : (step : ℕ → List ℕ → List ℕ) (n : ℕ) (c : List ℕ)
 unfolding steps
 steps-next step n c = rw (add-one n)
 
+-- two lists that kept their lengths
+pub both-lengths : (F S G T : List ℕ) → length F ≡ length G → length S ≡ length T → length (F ++ S) ≡ length (G ++ T)
+both-lengths F S G T e f = length-append F S ∙ omega (arith, length-append G T)
+
 -- what a loop over rows knows at its head
 pub record Walked (step : ℕ → List ℕ → List ℕ) (c₀ c : List ℕ) (h y : ℕ) : Type 0 where
   pub most : y ≤ h

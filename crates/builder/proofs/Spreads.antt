@@ -3,7 +3,7 @@ use mathlib.Core.Path.{_≡_, refl, ap, _∙_}
 use mathlib.Core.List.{List, _++_}
 use Prim.Native.Nat.{ℕ, _+_, _*_, _-_, _≤_, _<_}
 use native.Mathlib.Omega.{arith}
-use lib.ListN.{length, take, length-append}
+use lib.ListN.{length, take}
 use lib.Seq.{length-take-le}
 use Rattle.filters.specs.declared.halving.ReduceFilter.{ReduceFilter}
 use Rattle.filters.specs.Halve.{Apart, headed, reducedApart}
@@ -12,7 +12,7 @@ use Rattle.builder.specs.declared.layout.Region.{Region}
 use Rattle.builder.specs.Canvas.{fetch, put}
 use Rattle.builder.specs.Halving.{halveRun}
 use Rattle.builder.specs.Room.{Spread}
-use Rattle.builder.proofs.Runs.{fetch-length, row-in, Walked, walked-none, walked-more, walked-next}
+use Rattle.builder.proofs.Runs.{fetch-length, row-in, Walked, walked-none, walked-more, walked-next, both-lengths}
 
 -- ---- rows
 -- row y of h that are 2 * p apart
@@ -47,14 +47,11 @@ pub record Passed (step : ℕ → List ℕ → List ℕ) (F₀ S₀ X₀ F S X :
 pub passed-none : {step : ℕ → List ℕ → List ℕ} {F S X : List ℕ} {h : ℕ} → Passed step F S X F S X h 0
 passed-none = record { walk = walked-none; frame = refl; spill = refl; scratch = refl }
 
-both-same : (F S F' S' : List ℕ) → length F' ≡ length F → length S' ≡ length S → length (F' ++ S') ≡ length (F ++ S)
-both-same F S F' S' e f = length-append F' S' ∙ omega (arith, length-append F S)
-
 module _ {F₀ S₀ X₀ F S X F' S' X' : List ℕ} {h y : ℕ} where
   pub passed-more : {step : ℕ → List ℕ → List ℕ} → Passed step F₀ S₀ X₀ F S X h y → y < h → length F' ≡ length F → length S' ≡ length S → length X' ≡ length X → F' ++ S' ≡ step y (F ++ S) → Passed step F₀ S₀ X₀ F' S' X' h (y + 1)
   passed-more w lt ef es ex e =
       record {
-        walk = walked-more (w .walk) lt (both-same F S F' S' ef es) e;
+        walk = walked-more (w .walk) lt (both-lengths F' S' F S ef es) e;
         frame = ef ∙ w .frame;
         spill = es ∙ w .spill;
         scratch = ex ∙ w .scratch;
@@ -64,7 +61,7 @@ module _ {F₀ S₀ X₀ F S X F' S' X' : List ℕ} {h y : ℕ} where
   pub passed-next : (step : ℕ → List ℕ → List ℕ) → 1 ≤ y → Passed (λ i. step (i + 1)) F₀ S₀ X₀ F S X (h - 1) (y - 1) → y < h → length F' ≡ length F → length S' ≡ length S → length X' ≡ length X → F' ++ S' ≡ step y (F ++ S) → Passed (λ i. step (i + 1)) F₀ S₀ X₀ F' S' X' (h - 1) (y + 1 - 1)
   passed-next step some w lt ef es ex e =
       record {
-        walk = walked-next step some (w .walk) lt (both-same F S F' S' ef es) e;
+        walk = walked-next step some (w .walk) lt (both-lengths F' S' F S ef es) e;
         frame = ef ∙ w .frame;
         spill = es ∙ w .spill;
         scratch = ex ∙ w .scratch;

@@ -6,8 +6,8 @@ use native.Mathlib.Omega.{arith}
 use lib.ListN.{length, getD}
 use denote.Ref.{now}
 use Rattle.builder.specs.Refining.{pairOf, pairs, quarter}
-use Rattle.builder.proofs.Runs.{Walked, walked-none, walked-more, walked-whole}
-use Rattle.builder.proofs.Refined.{both-lengths, planes-kept, table-row, table-walked}
+use Rattle.builder.proofs.Runs.{both-lengths, Walked, walked-none, walked-more, walked-whole}
+use Rattle.builder.proofs.Refined.{planes-kept, table-row, table-walked}
 use Rattle.builder.proofs.refining.quarters.Statement.{statement}
 use Rattle.builder.proofs.refining.quarters.Tie as tie
 

@@ -7,8 +7,7 @@ use lib.ListN.{length}
 use denote.Ref.{now}
 use Rattle.builder.specs.Canvas.{steps}
 use Rattle.builder.specs.Refining.{pairRun, pairPlane}
-use Rattle.builder.proofs.Runs.{row-in, Walked, walked-none, walked-more, walked-whole}
-use Rattle.builder.proofs.Refined.{both-lengths}
+use Rattle.builder.proofs.Runs.{both-lengths, row-in, Walked, walked-none, walked-more, walked-whole}
 use Rattle.builder.proofs.refining.Interp.pair.Statement.{statement}
 use Rattle.builder.proofs.refining.Interp.pair.Tie as tie
 
