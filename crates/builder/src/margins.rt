@@ -36,7 +36,7 @@ fn cubic_fits(base: usize, pitch: usize, target: Region, len: usize) -> bool
 }
 
 // Whether a later level is halved by the fused cubic, in a frame of len bytes.
-pub fn fused(layout: Layout, level: u32, len: usize) -> bool
+pub(crate) fn fused(layout: Layout, level: u32, len: usize) -> bool
     requires { ⌜ (layoutNo layout ≡ 0) × (1 ≤ level) × (level < levelsOf layout) ⌝ }
     ensures { λ r. ⌜ r ≡ fusedAt layout len level ⌝ }
 {
