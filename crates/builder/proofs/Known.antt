@@ -6,7 +6,7 @@ use borrow.Author.Tests.{eqb-false}
 use Rattle.settings.specs.declared.refusal.Refusal.{Refusal}
 use Rattle.settings.specs.declared.refusal.Tested.{Tested}
 use Rattle.settings.specs.declared.refusal.Tested.the-variants.{Refused as TestRefused}
-use Rattle.settings.specs.Answers.{Answer, number}
+use Rattle.settings.specs.Answers.{Answer, answer, number, tested}
 use Rattle.settings.proofs.Known.{number-some, tested-known}
 use Rattle.builder.specs.declared.layout.Laid.{Laid}
 use Rattle.builder.specs.declared.layout.Ended.{Ended}
@@ -35,3 +35,10 @@ laid-known a b e =
     (ap (λ (x : Columns). x .offsets) v)
     (ap (λ (x : Columns). x .widths) v)
     (ap (λ (x : Columns). x .heights) v)
+
+-- a number with the bytes that a call leaves
+pub left-known : (a b : Tested × List ℕ) → answer (tested (a .0)) (a .1) ≡ answer (tested (b .0)) (b .1) → a ≡ b
+left-known a b e =
+    let t = tested-known (a .0) (b .0) (ap (λ (x : Answer (List ℕ)). x .no) e) in
+    let l = ap (λ (x : Answer (List ℕ)). x .value) e in
+    rw (t, l)

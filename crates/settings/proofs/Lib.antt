@@ -12,6 +12,7 @@
 --     Lines      text put together
 --     Printed    what reading prints is short
 --     ByHand     document 01's table, computed
+--     Outcome    one outcome: what it says, and the law behind it
 --     Unique     one outcome for each public call
 pub mod Tests
 pub mod Integers
@@ -26,4 +27,5 @@ pub mod Told
 pub mod Lines
 pub mod Printed
 pub mod ByHand
+pub mod Outcome
 pub mod Unique

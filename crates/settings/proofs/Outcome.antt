@@ -1,0 +1,14 @@
+-- One outcome: what it says of a call, and the law behind each proof of it. Assumes nothing.
+use mathlib.Core.Path.{_≡_, sym, _∙_}
+
+-- Two outcomes that meet a call's contract are alike in all that is seen of them: the answer, and what is left in the slices that were lent. `Post` is what the checker itself reads of the call's `ensures`: arguments, answer, references at exit.
+abbrev pub OneOutcome : {X R E O : Type 0} → (X → R → E → Type 0) → (R → E → O) → Type 0
+OneOutcome {X} {R} {E} Post seen = (x : X) (r s : R) (e f : E) → Post x r e → Post x s f → seen r e ≡ seen s f
+
+-- what is known by its value under f is settled by an equation for that value
+pub settled : {A B : Type 0} {f : A → B} → ((a b : A) → f a ≡ f b → a ≡ b) → {a b : A} {owed : B} → f a ≡ owed → f b ≡ owed → a ≡ b
+settled known {a} {b} p q = known a b (p ∙ sym q)
+
+-- a plain value is known by itself
+pub itself : {A : Type 0} (a b : A) → a ≡ b → a ≡ b
+itself a b e = e
