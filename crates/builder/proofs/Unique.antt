@@ -1,4 +1,4 @@
--- One outcome: no second answer, row, frame, spill or scratch meets the contract of a public call (`OneOutcome`), by one law (`settled`). First the calls of `settings`, proved there; then those of this crate. The calls of `filters` are inner ones (docs/EXCEPTIONS.md). Assumes nothing.
+-- One outcome: no second answer, row, frame, spill or scratch meets the contract of a public call (`OneOutcome`), by one law (`settled`). The calls of `settings`, proved there, are named among the imports; then come the rows of `filters`, and last the calls of this crate. docs/EXCEPTIONS.md has the two that aren't here. Assumes nothing.
 use mathlib.Core.Path.{_≡_, ap}
 use mathlib.Core.List.{List}
 use Prim.Native.Nat.{ℕ}
@@ -14,8 +14,70 @@ use Rattle.builder.proofs.rows.row_tested.Reads as row-tested-reads
 use Rattle.builder.proofs.rows.row.Reads as row-reads
 use Rattle.builder.proofs.margins.clear_margins.Reads as clear-margins-reads
 use Rattle.builder.proofs.build.build_plane.Reads as build-plane-reads
+use Rattle.filters.proofs.rows.mean.Reads as mean-reads
+use Rattle.filters.proofs.rows.mean_row.Reads as mean-row-reads
+use Rattle.filters.proofs.rows.copy_row.Reads as copy-row-reads
+use Rattle.filters.proofs.rows.zero_row.Reads as zero-row-reads
+use Rattle.filters.proofs.rows.rest.Reads as rest-reads
+use Rattle.filters.proofs.halving.ReduceFilter.from_option.Reads as reduce-from-option-reads
+use Rattle.filters.proofs.halving.ReduceFilter.first_row.Reads as first-row-reads
+use Rattle.filters.proofs.halving.ReduceFilter.last_row.Reads as last-row-reads
+use Rattle.filters.proofs.halving.ReduceFilter.vertical_edge.Reads as vertical-edge-reads
+use Rattle.filters.proofs.halving.ReduceFilter.vertical_filter.Reads as vertical-filter-reads
+use Rattle.filters.proofs.halving.ReduceFilter.reduce_row.Reads as reduce-row-reads
+use Rattle.filters.proofs.halving.cubic_rest.Reads as cubic-rest-reads
+use Rattle.filters.proofs.half_pel.HalfPel.from_option.Reads as half-pel-from-option-reads
+use Rattle.filters.proofs.half_pel.HalfPel.vertical.Reads as half-vertical-reads
+use Rattle.filters.proofs.half_pel.HalfPel.horizontal.Reads as half-horizontal-reads
 pub use Rattle.settings.proofs.Unique.{from-opt-unique, accepted-unique, pack-data-unique, super-height-unique, super-width-unique, read-word-unique, prepare-alike-unique, hex-word-unique, line-end-unique, reduce-dim-unique, naturals-unique, number-unique, then-refuse-unique, is-fine-unique, natural-unique, bit-unique, to-bits-unique, from-bits-unique}
 
+-- ---- the rows of `filters`
+pub mean-unique : (κs : Lfts 0) → OneOutcome (mean-reads.Post κs) (λ r e. r)
+mean-unique κs x r s e f p q = settled itself p q
+
+pub mean-row-unique : (κs : Lfts 3) → OneOutcome (mean-row-reads.Post κs) (λ r e. now (e .0))
+mean-row-unique κs x r s e f p q = settled itself p q
+
+pub copy-row-unique : (κs : Lfts 2) → OneOutcome (copy-row-reads.Post κs) (λ r e. now (e .0))
+copy-row-unique κs x r s e f p q = settled itself p q
+
+pub zero-row-unique : (κs : Lfts 1) → OneOutcome (zero-row-reads.Post κs) (λ r e. now (e .0))
+zero-row-unique κs x r s e f p q = settled itself p q
+
+pub rest-unique : (κs : Lfts 1) → OneOutcome (rest-reads.Post κs) (λ r e. now r)
+rest-unique κs x r s e f p q = settled itself p q
+
+pub reduce-from-option-unique : (κs : Lfts 0) → OneOutcome (reduce-from-option-reads.Post κs) (λ r e. r)
+reduce-from-option-unique κs x r s e f p q = settled itself p q
+
+pub first-row-unique : (κs : Lfts 0) → OneOutcome (first-row-reads.Post κs) (λ r e. r)
+first-row-unique κs x r s e f p q = settled itself p q
+
+pub last-row-unique : (κs : Lfts 0) → OneOutcome (last-row-reads.Post κs) (λ r e. r)
+last-row-unique κs x r s e f p q = settled itself p q
+
+pub vertical-edge-unique : (κs : Lfts 0) → OneOutcome (vertical-edge-reads.Post κs) (λ r e. r)
+vertical-edge-unique κs x r s e f p q = settled itself p q
+
+pub vertical-filter-unique : (κs : Lfts 7) → OneOutcome (vertical-filter-reads.Post κs) (λ r e. now (e .1 .0))
+vertical-filter-unique κs x r s e f p q = settled itself p q
+
+pub reduce-row-unique : (κs : Lfts 2) → OneOutcome (reduce-row-reads.Post κs) (λ r e. now (e .1 .0))
+reduce-row-unique κs x r s e f p q = settled itself p q
+
+pub cubic-rest-unique : (κs : Lfts 7) → OneOutcome (cubic-rest-reads.Post κs) (λ r e. now (e .0))
+cubic-rest-unique κs x r s e f p q = settled itself p q
+
+pub half-pel-from-option-unique : (κs : Lfts 0) → OneOutcome (half-pel-from-option-reads.Post κs) (λ r e. r)
+half-pel-from-option-unique κs x r s e f p q = settled itself p q
+
+pub half-vertical-unique : (κs : Lfts 7) → OneOutcome (half-vertical-reads.Post κs) (λ r e. now (e .1 .0))
+half-vertical-unique κs x r s e f p q = settled itself p q
+
+pub half-horizontal-unique : (κs : Lfts 2) → OneOutcome (half-horizontal-reads.Post κs) (λ r e. now (e .1 .0))
+half-horizontal-unique κs x r s e f p q = settled itself p q
+
+-- ---- the calls of this crate
 pub level-regions-unique : (κs : Lfts 0) → OneOutcome (level-regions-reads.Post κs) (λ r e. r)
 level-regions-unique κs x r s e f p q = settled laid-known p q
 
