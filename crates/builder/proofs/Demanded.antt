@@ -1,4 +1,4 @@
--- Demand 3, proved byte for byte (specs/Demands.antt). First that the plane of proofs/Witness.antt is built, and that records with the word of an open filter differ on it; then from reading's tests to the demand; last `reads-met` and `both-met`. Assumes nothing.
+-- Demand 3 over the definitions, byte for byte (`Exact` of specs/Demands.antt). First that the plane of proofs/Witness.antt is built, and that records with the word of an open filter differ on it; then from reading's tests to the demand; last `reads-met`. proofs/Demand.antt carries it to the calls. Assumes nothing.
 use mathlib.Core.Path.{_≡_, refl, sym, ap, _∙_}
 use mathlib.Core.List.{List}
 use mathlib.Core.Bool.{Bool, true, false, cond, not, _&&_, _||_}
@@ -16,6 +16,7 @@ use Rattle.settings.specs.Numbers.{isNat, toNat, refuse, _then_}
 use Rattle.settings.specs.Sizes.{reduced}
 use Rattle.settings.specs.Check.{accepted, pelOf, lumaW, lumaH, levelCount}
 use Rattle.settings.specs.Reading.{candidate, isCode, readNo, downMatters, upMatters, Packs}
+use Rattle.settings.specs.Answers.{readAnswer}
 use Rattle.settings.proofs.Tests.{and-left, and-right}
 use Rattle.settings.proofs.Accepted.{fine, within, record-none}
 use Rattle.settings.proofs.Told.{filtered, filtered-packs, halving as halvingOpen, upscale as upscaleOpen, numberBy, read-by, read-case, at-21, at-22, false-by, true-by, clash, canon-four, packs-code, code-packs, none-exact, tells-exact, only-exact}
@@ -29,10 +30,10 @@ use Rattle.builder.specs.Layout.{widthAt, heightAt, offsetAt, writtenEnd
 use Rattle.builder.specs.Numbers.{badPitch, leastPitch, layoutNo, sourceNeed, lentNo, buildNo}
 use Rattle.builder.specs.Refining.{planeAt}
 use Rattle.builder.specs.Build.{planesOf}
-use Rattle.builder.specs.Demands.{bytes, Builds, leaves, SameBuild, Differ, withDown, withUp, HalvingDiffers, UpscaleDiffers, ReadsExact, BothBuild}
+use Rattle.builder.specs.Demands.{bytes, SameBuild, Differ, withDown, withUp, HalvingDiffers, UpscaleDiffers, Exact, Builds, leaves, Leaves}
 use Rattle.builder.proofs.Runs.{row-in}
 use Rattle.builder.proofs.Stored.{pel-more}
-use Rattle.builder.proofs.Same.{offset-same, down-same, up-same, one-there, builds-both}
+use Rattle.builder.proofs.Same.{offset-same, down-same, up-same, one-there}
 use Rattle.builder.proofs.Witness.{Placed, sizes, luma, flat, w-is, h-is, unwritten, written, last-means, last-kernel}
 
 -- ---- the plane is built
@@ -125,19 +126,21 @@ module _ (v : ℕ) (r : SuperOpts) (p : Packs v r) where
   ends-at : (d u : ℤ) → writtenEnd (luma (filtered r d u)) ≤ end
   ends-at d u = omega (arith, at-level d u (levelCount r))
 
-  differ-on : (s t : SuperOpts) → Builds s (flat r end) → Builds t (flat r end) → (leaves s (flat r end) ≡ leaves t (flat r end) → ⊥) → Differ s t
+  differ-on : (s t : SuperOpts) → Builds s (flat r end) → Builds t (flat r end) → (leaves s (flat r end) ≡ leaves t (flat r end) → ⊥) → Differ Leaves s t
   differ-on s t bs bt ne =
       record {
         at = flat r end;
-        first = bs;
-        second = bt;
         is-bytes = bytes-rep (lumaW r * lumaH r) 255 refl;
         zeros = ap (λ (k : ℕ). replicate k 0) (sym (length-replicate {A = ℕ} end 0));
+        one = leaves s (flat r end);
+        other = leaves t (flat r end);
+        first = (bs, refl);
+        second = (bt, refl);
         unequal = ne;
       }
 
   -- down 0 and down 5
-  halving-there : halvingOpen r ≡ true → HalvingDiffers v
+  halving-there : halvingOpen r ≡ true → HalvingDiffers (Packs v) Leaves
   halving-there e =
       let u = r .«scale_up» in
       let ok = fine r (p .good) .up in
@@ -160,7 +163,7 @@ module _ (v : ℕ) (r : SuperOpts) (p : Packs v r) where
       )
 
   -- up 0 and up 1
-  upscale-there : upscaleOpen r ≡ true → UpscaleDiffers v
+  upscale-there : upscaleOpen r ≡ true → UpscaleDiffers (Packs v) Leaves
   upscale-there e =
       let d = r .«scale_down» in
       let zero' = and-right (upMatters r) (isNat (r .gpu) 0) e in
@@ -188,35 +191,35 @@ module _ (v : ℕ) (r : SuperOpts) (p : Packs v r) where
       )
 
 -- ---- from reading's tests to the demand
-open-halving : (v : ℕ) → HalvingDiffers v → halvingOpen (candidate v) ≡ true
+open-halving : (v : ℕ) → HalvingDiffers (Packs v) Leaves → halvingOpen (candidate v) ≡ true
 open-halving v t =
     let r = t .0 in
     let d = t .1 in
     let both = sym (canon-four v (withDown r d) (t .3)) ∙ canon-four v r (t .2) in
-    true-by (halvingOpen (candidate v)) (λ e. t .4 .unequal (sym (down-same v r (t .2) (t .4 .at) d both e)))
+    true-by (halvingOpen (candidate v)) (λ e. t .4 .unequal (t .4 .first .1 ∙ sym (down-same v r (t .2) (t .4 .at) d both e) ∙ sym (t .4 .second .1)))
 
-open-upscale : (v : ℕ) → UpscaleDiffers v → upscaleOpen (candidate v) ≡ true
+open-upscale : (v : ℕ) → UpscaleDiffers (Packs v) Leaves → upscaleOpen (candidate v) ≡ true
 open-upscale v t =
     let r = t .0 in
     let u = t .1 in
-    true-by (upscaleOpen (candidate v)) (λ e. t .4 .unequal (sym (up-same v r (t .2) (t .4 .at) u (fine (withUp r u) (t .3 .good) .up) e)))
+    true-by (upscaleOpen (candidate v)) (λ e. t .4 .unequal (t .4 .first .1 ∙ sym (up-same v r (t .2) (t .4 .at) u (fine (withUp r u) (t .3 .good) .up) e) ∙ sym (t .4 .second .1)))
 
 number-is : (v : ℕ) (c a b : Bool) → isCode (candidate v) v ≡ c → halvingOpen (candidate v) ≡ a → upscaleOpen (candidate v) ≡ b → readNo v ≡ numberBy c a b
 number-is v c a b ec ea eb = read-by v ∙ cc
 
-halving-open : (v : ℕ) → isCode (candidate v) v ≡ true → halvingOpen (candidate v) ≡ true → HalvingDiffers v
+halving-open : (v : ℕ) → isCode (candidate v) v ≡ true → halvingOpen (candidate v) ≡ true → HalvingDiffers (Packs v) Leaves
 halving-open v c a = halving-there v (candidate v) (code-packs v c) a
 
-upscale-open : (v : ℕ) → isCode (candidate v) v ≡ true → upscaleOpen (candidate v) ≡ true → UpscaleDiffers v
+upscale-open : (v : ℕ) → isCode (candidate v) v ≡ true → upscaleOpen (candidate v) ≡ true → UpscaleDiffers (Packs v) Leaves
 upscale-open v c b = upscale-there v (candidate v) (code-packs v c) b
 
-halving-met : (v : ℕ) → (readNo v ≡ 21) ↔ HalvingDiffers v
+halving-met : (v : ℕ) → (readNo v ≡ 21) ↔ HalvingDiffers (Packs v) Leaves
 halving-met v = (
   λ e. let k = at-21 (read-case v) e in halving-open v (k .0) (k .1),
   λ t. number-is v true true (upscaleOpen (candidate v)) (packs-code v (t .0) (t .2)) (open-halving v t) refl,
 )
 
-upscale-met : (v : ℕ) → (readNo v ≡ 22) ↔ (UpscaleDiffers v × (HalvingDiffers v → ⊥))
+upscale-met : (v : ℕ) → (readNo v ≡ 22) ↔ (UpscaleDiffers (Packs v) Leaves × (HalvingDiffers (Packs v) Leaves → ⊥))
 upscale-met v = (
   λ e. let k = at-22 (read-case v) e in (upscale-open v (k .0) (k .2), λ t. clash (halvingOpen (candidate v)) (open-halving v t) (k .1)),
   λ t.
@@ -225,10 +228,10 @@ upscale-met v = (
 )
 
 -- records that differ aren't one build
-not-same : (r s : SuperOpts) → Differ r s → SameBuild r s → ⊥
-not-same r s d same = d .unequal (same (d .at) (d .is-bytes) (zeros-bytes (d .at .frame) (d .zeros)) (d .first) (d .second))
+not-same : (r s : SuperOpts) → Differ Leaves r s → SameBuild Leaves r s → ⊥
+not-same r s d same = d .unequal (same (d .at) (d .one) (d .other) (d .is-bytes) (zeros-bytes (d .at .frame) (d .zeros)) (d .first) (d .second))
 
-one-back : (v : ℕ) → ((r : SuperOpts) × Packs v r) × ((r s : SuperOpts) → Packs v r → Packs v s → SameBuild r s) → readNo v ≡ 0
+one-back : (v : ℕ) → ((r : SuperOpts) × Packs v r) × ((r s : SuperOpts) → Packs v r → Packs v s → SameBuild Leaves r s) → readNo v ≡ 0
 one-back v t =
     let code = packs-code v (t .0 .0) (t .0 .1) in
     number-is v true false false code
@@ -236,16 +239,13 @@ one-back v t =
     (false-by (upscaleOpen (candidate v)) (λ e. let o = upscale-open v code e in not-same (o .0) (withUp (o .0) (o .1)) (o .4) (t .1 (o .0) (withUp (o .0) (o .1)) (o .2) (o .3))))
 
 -- ---- demand 3
-pub reads-met : ReadsExact
+pub reads-met : (v : ℕ) → Exact (Packs v) Leaves (readAnswer v)
 reads-met v =
     record {
       one = (one-there v, one-back v);
-      tells = tells-exact v;
+      tells = λ e r p. rw e (tells-exact v e r p);
       none = none-exact v;
       halving = halving-met v;
       upscale = upscale-met v;
       only = only-exact v;
     }
-
-pub both-met : BothBuild
-both-met = builds-both

@@ -28,7 +28,7 @@ use Rattle.builder.specs.Margins.{fusedAt}
 use Rattle.builder.specs.Numbers.{layoutNo, lentNo, buildNo}
 use Rattle.builder.specs.Refining.{refine}
 use Rattle.builder.specs.Build.{planesOf, copied, halveLevel, halved, refines, refined, built, builtFrame}
-use Rattle.builder.specs.Demands.{Given, layoutOf, Builds, leaves, SameBuild, withDown, withUp}
+use Rattle.builder.specs.Demands.{Given, layoutOf, SameBuild, withDown, withUp, Builds, leaves, Leaves}
 
 steps-none : (step : ℕ → List ℕ → List ℕ) (n : ℕ) (c : List ℕ) → n ≡ 0 → steps step n c ≡ c
 unfolding steps
@@ -142,11 +142,11 @@ leaves-canon v e r p g =
     four-fits true = refl
     four-fits false = refl
 
-pub same-build : (v : ℕ) → readNo v ≡ 0 → (r s : SuperOpts) → Packs v r → Packs v s → SameBuild r s
-same-build v e r s p q g bs bf h k = sym (leaves-canon v e r p g) ∙ leaves-canon v e s q g
+pub same-build : (v : ℕ) → readNo v ≡ 0 → (r s : SuperOpts) → Packs v r → Packs v s → SameBuild Leaves r s
+same-build v e r s p q g m n bs bf h k = h .1 ∙ sym (leaves-canon v e r p g) ∙ leaves-canon v e s q g ∙ sym (k .1)
 
 -- "names one build exactly if ..", one way
-pub one-there : (v : ℕ) → readNo v ≡ 0 → ((r : SuperOpts) × Packs v r) × ((r s : SuperOpts) → Packs v r → Packs v s → SameBuild r s)
+pub one-there : (v : ℕ) → readNo v ≡ 0 → ((r : SuperOpts) × Packs v r) × ((r s : SuperOpts) → Packs v r → Packs v s → SameBuild Leaves r s)
 one-there v e = ((candidate v, code-packs v (at-0 (read-case v) e .0)), same-build v e)
 
 -- ---- what packs to one word builds, or none does: an accepted record's number doesn't depend on its filters

@@ -1,5 +1,5 @@
--- Demand 3, byte for byte: what reading a word answers, over the bytes that the records behind it leave. Types only: `reads-met` and `both-met` of proofs/Demanded.antt prove them.
--- First what a build is given; then builds that leave the same, and two that differ; last the demand, each part cited.
+-- Demand 3, byte for byte: what reading a word answers, over the bytes that the records behind it leave. Types only: proofs/Demand.antt has the proof about the calls, from that over the definitions in proofs/Demanded.antt.
+-- First what a build is given; then the demand, each part cited, of any `Behind`, the records that pack to a word, and any `Leaves r g m`, that a build by the record r, given g, leaves the bytes m; then what these two are by the calls' contracts; last what they are by the definitions.
 use Prim.Native.Nat.{ℕ}
 use mathlib.Core.Path.{_≡_}
 use mathlib.Core.Logic.{_↔_, _⊎_}
@@ -8,12 +8,19 @@ use mathlib.Core.List.{List, [], _∷_}
 use lib.Dec.{ltb}
 use lib.IntN.{ℤ}
 use lib.ListN.{length, replicate}
+use Rattle.settings.specs.declared.refusal.Tested.{Tested}
+use Rattle.settings.specs.declared.refusal.Tested.the-variants.{Fine}
 use Rattle.settings.specs.declared.super_opts.SuperOpts.{SuperOpts}
-use Rattle.settings.specs.Reading.{candidate, readNo, describe, Packs}
+use Rattle.settings.specs.declared.super_opts.Packed.the-variants.{Word}
+use Rattle.settings.specs.declared.word.Description.{Description}
+use Rattle.settings.specs.Reading.{describe}
+use Rattle.settings.specs.Answers.{Answer, answer, tested, packed, packAnswer}
+use Rattle.settings.proofs.Accepted.{Returns}
 use Rattle.builder.specs.declared.layout.Layout.{Layout}
 use Rattle.builder.specs.Layout.{spillNeed, scratchNeed}
 use Rattle.builder.specs.Numbers.{buildNo}
 use Rattle.builder.specs.Build.{builtFrame}
+use Rattle.builder.specs.Answers.{planeNo, buildAnswer, lentAfter}
 
 -- ---- "plane, source pitch, layout and starting frame"
 abbrev pub bytes : List ℕ → Bool
@@ -32,25 +39,21 @@ pub record Given : Type 0 where
 abbrev pub layoutOf : SuperOpts → Given → Layout
 layoutOf r g = record { opts = r; «x_shift» = g .«x_shift»; «y_shift» = g .«y_shift»; pitch = g .pitch }
 
--- the build isn't refused, with as much spill and scratch as it needs
-abbrev pub Builds : SuperOpts → Given → Type 0
-Builds r g = let q = layoutOf r g in buildNo q (length (g .src)) (g .sp) (length (g .frame)) (spillNeed q) (scratchNeed q) ≡ 0
-
-abbrev pub leaves : SuperOpts → Given → List ℕ
-leaves r g = builtFrame (layoutOf r g) (g .src) (g .sp) (g .frame)
-
 -- ---- two records
-abbrev pub SameBuild : SuperOpts → SuperOpts → Type 0
-SameBuild r s = (g : Given) → bytes (g .src) ≡ true → bytes (g .frame) ≡ true → Builds r g → Builds s g → leaves r g ≡ leaves s g
+-- "leave equal bytes, given the same plane, source pitch, layout and starting frame"
+abbrev pub SameBuild : (SuperOpts → Given → List ℕ → Type 0) → SuperOpts → SuperOpts → Type 0
+SameBuild Leaves r s = (g : Given) (m n : List ℕ) → bytes (g .src) ≡ true → bytes (g .frame) ≡ true → Leaves r g m → Leaves s g n → m ≡ n
 
 -- "different bytes for some plane, source pitch and layout, the same for both, in a frame of zeros"
-pub record Differ (r s : SuperOpts) : Type 0 where
+pub record Differ (Leaves : SuperOpts → Given → List ℕ → Type 0) (r s : SuperOpts) : Type 0 where
   pub at : Given
-  pub first : Builds r at
-  pub second : Builds s at
   pub is-bytes : bytes (at .src) ≡ true
   pub zeros : at .frame ≡ replicate (length (at .frame)) 0
-  pub unequal : leaves r at ≡ leaves s at → ⊥
+  pub one : List ℕ
+  pub other : List ℕ
+  pub first : Leaves r at one
+  pub second : Leaves s at other
+  pub unequal : one ≡ other → ⊥
 
 -- "alike but for that one setting"
 abbrev pub withDown : SuperOpts → ℤ → SuperOpts
@@ -84,29 +87,54 @@ withUp r u =
     }
 
 -- "two such records, alike but for that one setting, leave different bytes"
-abbrev pub HalvingDiffers : ℕ → Type 0
-HalvingDiffers v = (r : SuperOpts) × (d : ℤ) × Packs v r × Packs v (withDown r d) × Differ r (withDown r d)
+abbrev pub HalvingDiffers : (SuperOpts → Type 0) → (SuperOpts → Given → List ℕ → Type 0) → Type 0
+HalvingDiffers Behind Leaves = (r : SuperOpts) × (d : ℤ) × Behind r × Behind (withDown r d) × Differ Leaves r (withDown r d)
 
-abbrev pub UpscaleDiffers : ℕ → Type 0
-UpscaleDiffers v = (r : SuperOpts) × (u : ℤ) × Packs v r × Packs v (withUp r u) × Differ r (withUp r u)
+abbrev pub UpscaleDiffers : (SuperOpts → Type 0) → (SuperOpts → Given → List ℕ → Type 0) → Type 0
+UpscaleDiffers Behind Leaves = (r : SuperOpts) × (u : ℤ) × Behind r × Behind (withUp r u) × Differ Leaves r (withUp r u)
 
--- ---- the demand, for the word v
-pub record ReadExact (v : ℕ) : Type 0 where
+-- ---- the demand, of an answer by its number and value
+pub record Exact (Behind : SuperOpts → Type 0) (Leaves : SuperOpts → Given → List ℕ → Type 0) (a : Answer Description) : Type 0 where
   -- "names one build exactly if some accepted record packs to it and all that do leave equal bytes"
-  pub one : (readNo v ≡ 0) ↔ (((r : SuperOpts) × Packs v r) × ((r s : SuperOpts) → Packs v r → Packs v s → SameBuild r s))
+  pub one : (a .no ≡ 0) ↔ (((r : SuperOpts) × Behind r) × ((r s : SuperOpts) → Behind r → Behind s → SameBuild Leaves r s))
   -- "it then tells the width, .. they all have, and their down and up where document 01 says these matter"
-  pub tells : readNo v ≡ 0 → (r : SuperOpts) → Packs v r → describe (candidate v) ≡ describe r
+  pub tells : a .no ≡ 0 → (r : SuperOpts) → Behind r → a .value ≡ describe r
   -- "It answers "not a code" exactly if none packs to it"
-  pub none : (readNo v ≡ 20) ↔ ((r : SuperOpts) → Packs v r → ⊥)
+  pub none : (a .no ≡ 20) ↔ ((r : SuperOpts) → Behind r → ⊥)
   -- "that the halving or the upscale filter isn't told exactly if .."; "if both hold, halving is named"
-  pub halving : (readNo v ≡ 21) ↔ HalvingDiffers v
-  pub upscale : (readNo v ≡ 22) ↔ (UpscaleDiffers v × (HalvingDiffers v → ⊥))
+  pub halving : (a .no ≡ 21) ↔ HalvingDiffers Behind Leaves
+  pub upscale : (a .no ≡ 22) ↔ (UpscaleDiffers Behind Leaves × (HalvingDiffers Behind Leaves → ⊥))
   -- and no other number
-  pub only : (readNo v ≡ 0) ⊎ (readNo v ≡ 20) ⊎ (readNo v ≡ 21) ⊎ (readNo v ≡ 22)
+  pub only : (a .no ≡ 0) ⊎ (a .no ≡ 20) ⊎ (a .no ≡ 21) ⊎ (a .no ≡ 22)
 
-abbrev pub ReadsExact : Type 0
-ReadsExact = (v : ℕ) → ReadExact v
+-- ---- by the calls' contracts
+-- `from_opt` returns the record for some i32 settings and size, and `pack_data` answers the word v for it
+abbrev pub PacksTo : ℕ → SuperOpts → Type 0
+PacksTo v r = Returns r × (packed (Word v) ≡ packAnswer r)
 
--- what packs to one word is built alike, or refused alike: what "both build" leaves out is nothing
-abbrev pub BothBuild : Type 0
-BothBuild = (v : ℕ) (r s : SuperOpts) → Packs v r → Packs v s → (g : Given) → Builds r g → Builds s g
+-- what `build_plane` promises of its answer and of frame, spill and scratch after it
+abbrev pub BuildPlane : Layout → List ℕ → ℕ → List ℕ → List ℕ → List ℕ → Tested → List ℕ → List ℕ → List ℕ → Type 0
+BuildPlane q src sp frame spill scratch t frame' spill' scratch' =
+    let n = planeNo q src sp frame spill scratch in
+    (answer (tested t) frame' ≡ buildAnswer n q src sp frame)
+    × (answer (tested t) spill' ≡ lentAfter n spill)
+    × (answer (tested t) scratch' ≡ lentAfter n scratch)
+
+-- with some spill and scratch `build_plane` answers that it is done, and leaves m in the frame
+pub record Finished (r : SuperOpts) (g : Given) (m : List ℕ) : Type 0 where
+  pub spill : List ℕ
+  pub scratch : List ℕ
+  pub spill' : List ℕ
+  pub scratch' : List ℕ
+  pub call : BuildPlane (layoutOf r g) (g .src) (g .sp) (g .frame) spill scratch Fine m spill' scratch'
+
+-- ---- by the definitions
+-- the build isn't refused, with as much spill and scratch as it needs
+abbrev pub Builds : SuperOpts → Given → Type 0
+Builds r g = let q = layoutOf r g in buildNo q (length (g .src)) (g .sp) (length (g .frame)) (spillNeed q) (scratchNeed q) ≡ 0
+
+abbrev pub leaves : SuperOpts → Given → List ℕ
+leaves r g = builtFrame (layoutOf r g) (g .src) (g .sp) (g .frame)
+
+abbrev pub Leaves : SuperOpts → Given → List ℕ → Type 0
+Leaves r g m = Builds r g × (m ≡ leaves r g)
