@@ -37,10 +37,10 @@ use Rattle.builder.proofs.Same.{offset-same, down-same, up-same, one-th
 use Rattle.builder.proofs.Witness.{Placed, sizes, luma, flat, w-is, h-is, unwritten, written, last-means, last-kernel}
 
 -- ---- the plane is built
-then-none : (m n : ℕ) → m ≡ 0 → n ≡ 0 → (m then n) ≡ 0
+pub then-none : (m n : ℕ) → m ≡ 0 → n ≡ 0 → (m then n) ≡ 0
 then-none m n em en = ap (λ (k : ℕ). k then n) em ∙ en
 
-refuse-none : (t : Bool) (k : ℕ) → t ≡ false → refuse t k ≡ 0
+pub refuse-none : (t : Bool) (k : ℕ) → t ≡ false → refuse t k ≡ 0
 refuse-none t k e = ap (λ (b : Bool). refuse b k) e
 
 either-le : (b : Bool) (m n k : ℕ) → m ≤ k → n ≤ k → cond b m n ≤ k

@@ -17,7 +17,8 @@
 --     Same       settings that don't matter leave no trace
 --     Kept       one byte of the canvas through the stages of a build
 --     Witness    a plane by which two settings of a filter that isn't told are known apart
---     Demanded   demand 3, byte for byte
+--     Demanded   demand 3 over the definitions, byte for byte
+--     Demand     demand 3 about the calls
 -- The folders hold a proof for each function.
 pub mod Choices
 pub mod Runs
@@ -38,3 +39,4 @@ pub mod Same
 pub mod Kept
 pub mod Witness
 pub mod Demanded
+pub mod Demand

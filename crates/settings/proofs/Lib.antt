@@ -12,7 +12,7 @@
 --     Lines      text put together
 --     Printed    what reading prints is short
 --     ByHand     document 01's table, computed
---     Outcome    one outcome: what it says, and the law behind it
+--     Outcome    what a call promises, one outcome, and the law behind it
 --     Unique     one outcome for each public call
 pub mod Tests
 pub mod Integers

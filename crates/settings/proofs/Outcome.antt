@@ -1,7 +1,10 @@
--- One outcome: what it says of a call, and the law behind each proof of it. Assumes nothing.
+-- What a call promises, and that it has one outcome: the statements, and the law behind each proof of the second. `Post` is what the checker itself reads of a call's `ensures`: arguments, answer, references at exit. Assumes nothing.
 use mathlib.Core.Path.{_≡_, sym, _∙_}
 
--- Two outcomes that meet a call's contract are alike in all that is seen of them: the answer, and what is left in the slices that were lent. `Post` is what the checker itself reads of the call's `ensures`: arguments, answer, references at exit.
+abbrev pub Promises : {X R E : Type 0} → (X → R → E → Type 0) → (X → R → E → Type 0) → Type 0
+Promises {X} {R} {E} Post Says = (x : X) (r : R) (e : E) → Post x r e → Says x r e
+
+-- two outcomes that meet a call's contract are alike in all that is seen of them: the answer, and what is left in the slices that were lent
 abbrev pub OneOutcome : {X R E O : Type 0} → (X → R → E → Type 0) → (R → E → O) → Type 0
 OneOutcome {X} {R} {E} Post seen = (x : X) (r s : R) (e f : E) → Post x r e → Post x s f → seen r e ≡ seen s f
 
