@@ -1,3 +1,5 @@
+// Half samples by the six taps, bicubic (`CatmullRom`) and `Wiener`.
+// First the kernels with their edges and rounding terms; then which of them `up` names; a place by its kernel; last a row down the rows, and a row along a row.
 use crate::rows::copy_row;
 use crate::rows::mean_row;
 use crate::rows::rest;

@@ -1,3 +1,5 @@
+// Rows of a later level: the four halving filters.
+// First the filters, each with its rows, edge, rounding term and weights; then which of them `down` names, and a filter by its type; then a row down the rows, a row of pairs halved; last the row taken apart for that, and the generic cubic on its other columns.
 use crate::rows::mean;
 use crate::rows::rest;
 ghost use mathlib.Core.Path.{_≡_};

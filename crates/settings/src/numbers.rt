@@ -1,3 +1,4 @@
+// Integers and bools read as numbers: first a natural number and a bit, then an i32 as its bits and back.
 ghost use mathlib.Core.Path.{_≡_};
 ghost use Prim.Native.Nat.{_<_};
 ghost use Rattle.settings.specs.Numbers.{bit, bitsOf, ofBits, toNat};

@@ -1,3 +1,5 @@
+// Why a call is refused, as document 01 numbers it.
+// First the refusals and the answer of a test; then the number of a refusal; last a row of refusals, put together one by one.
 ghost use mathlib.Core.Path.{_≡_};
 ghost use lib.Dec.{eqb};
 ghost use Rattle.settings.specs.Numbers.{refuse, _then_};
