@@ -12,11 +12,11 @@ ghost use Rattle.builder.specs.Build.{copied, refined, built, builtFrame
 ghost use Rattle.builder.specs.Answers.{planeNo, buildAnswer, lentAfter};
 ghost use Rattle.builder.specs.Room.{Ready};
 use crate::canvas::put;
-use crate::canvas::span;
 use crate::later::reduce_levels;
 use crate::layout::Layout;
 use crate::lent::build_tested;
 use crate::lent::spill_need;
+use crate::level0::source_row;
 use crate::levels::height;
 use crate::levels::width;
 use crate::refining::Interp;
@@ -37,7 +37,7 @@ fn copy_rows(frame: &mut [u8], layout: Layout, src: &[u8], sp: usize)
     let w = width(layout, 0);
     let h = height(layout, 0);
     for y in 0..h {
-        put(frame, y * layout.pitch, span(src, y * sp, w));
+        put(frame, y * layout.pitch, source_row(src, sp, w, h, y));
     }
 }
 

@@ -10,6 +10,7 @@
 //     separate   level 1 from the source plane, where level 0 isn't stored
 //     later      later levels, each in its way
 //     refining   the planes of level 0 between its places
+//     level0     the source plane's rows, which level 0 is copied from
 //     build      a plane, built whole
 pub mod build;
 mod canvas;
@@ -17,6 +18,7 @@ mod halving;
 mod later;
 pub mod layout;
 mod lent;
+mod level0;
 mod levels;
 pub mod margins;
 mod refining;

@@ -6,13 +6,13 @@ use Prim.Native.Nat.{ℕ, _+_, _*_, _-_, _≤_, _<_}
 use native.Mathlib.Omega.{arith}
 use lib.ListN.{length}
 use denote.Ref.{now}
-use borrow.Author.Tests.{not-false, not-true}
+use borrow.Author.Tests.{lt-ltb, not-false, not-true}
 use borrow.Author.Needs.{needs}
 use Rattle.builder.specs.Canvas.{fetch, put, steps}
 use Rattle.builder.specs.Layout.{widthAt, heightAt}
 use Rattle.builder.specs.Build.{copied}
 use Rattle.builder.proofs.Choices.{cond-yes, cond-no}
-use Rattle.builder.proofs.Runs.{Walked, walked-none, walked-more, walked-whole}
+use Rattle.builder.proofs.Runs.{fetch-length, Walked, walked-none, walked-more, walked-whole}
 use Rattle.builder.proofs.Layouts.{allowed}
 use Rattle.builder.proofs.Whole.{target-row, source-row}
 use Rattle.builder.proofs.build.copy_rows.Statement.{statement}
@@ -39,6 +39,10 @@ rows c =
     let w = at-width .width .ensures in
     (omega (arith, w, c .before .loop .inv .same, target-row q (allowed q (r .layout)) _ (entered .pre .0) (r .end) (full (at-width .before)) y lt), omega (arith, w, source-row q r (entered .pre .0) y lt))
 
+-- the source's row of this turn
+taken : (c : tie.After-source-row Inv-loop μ-loop) → now (c .source-row .result) ≡ fetch (now (c .before .before .before .before .before .before .before .before .before .before .before .before .args .src)) (c .before .before .before .before .loop .y * c .before .before .before .before .before .before .before .before .before .before .before .before .args .sp) (c .before .before .before .before .before .before .width .result)
+taken c = c .source-row .ensures ∙ cond-yes _ _ _ (lt-ltb _ _ (c .before .before .before .loop-test .taken))
+
 returns : tie.Need-returns Inv-loop μ-loop
 returns c = let q = c .before .before .before .before .before .args .layout in sym (cond-no (q .opts .full) _ _ (not-true (q .opts .full) (c .if1 .taken)))
 
@@ -54,14 +58,11 @@ loop-holds c = walked-none
 mul-put : tie.Need-mul-put Inv-loop μ-loop
 mul-put c = omega (arith, rows (c .before .before))
 
-mul-span : tie.Need-mul-span Inv-loop μ-loop
-mul-span c = omega (arith, rows (c .before .before))
-
-span-requires : tie.Need-span-requires Inv-loop μ-loop
-span-requires c κs = rows (c .before .before) .1
+source-row-requires : tie.Need-source-row-requires Inv-loop μ-loop
+source-row-requires c κs = λ lt. rows (c .before .before) .1
 
 put-requires : tie.Need-put-requires Inv-loop μ-loop
-put-requires c κs = omega (arith, rows (c .before .before .before) .0, c .span .ensures .1)
+put-requires c κs = omega (arith, rows (c .before .before .before) .0, ap length (taken c) ∙ fetch-length _ _ _)
 
 add-y : tie.Need-add-y Inv-loop μ-loop
 add-y c = omega arith
@@ -74,7 +75,7 @@ loop-again c =
     let at-put = c .before .before in
     let at-test = at-put .before .before .before .before in
     walked-more (at-test .before .loop .inv) (at-test .loop-test .taken) (at-put .put .kept .0)
-    (at-put .put .ensures ∙ ap (put (at-test .before .loop .frame) _) (at-put .before .span .ensures .0))
+    (at-put .put .ensures ∙ ap (put (at-test .before .loop .frame) _) (taken (at-put .before)))
 
 same-length : tie.Need-same-length Inv-loop μ-loop
 same-length c = c .before .loop .inv .same
@@ -103,8 +104,7 @@ copy-rows-spec =
     height-requires
     loop-holds
     mul-put
-    mul-span
-    span-requires
+    source-row-requires
     put-requires
     add-y
     loop-less
