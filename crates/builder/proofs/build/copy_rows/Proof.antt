@@ -59,7 +59,7 @@ mul-put : tie.Need-mul-put Inv-loop μ-loop
 mul-put c = omega (arith, rows (c .before .before))
 
 source-row-requires : tie.Need-source-row-requires Inv-loop μ-loop
-source-row-requires c κs = λ lt. rows (c .before .before) .1
+source-row-requires c κs = λ lt. omega (arith, rows (c .before .before) .1)
 
 put-requires : tie.Need-put-requires Inv-loop μ-loop
 put-requires c κs = omega (arith, rows (c .before .before .before) .0, ap length (taken c) ∙ fetch-length _ _ _)
