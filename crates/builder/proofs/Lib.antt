@@ -9,6 +9,7 @@
 --     Spreads    level 1 from the source plane: loops over the rows of a frame and its spill
 --     Prepared   a build that isn't refused: what its stages need is there, and those inside the frame don't see the spill
 --     Whole      a build, whole: what the refusals leave, level 0's rows and planes, and its stages one after the other
+--     Views      the view `Level0` and the plain parameters that stand for it
 --     Enough     the spill need covers every store of a build
 --     Before     nothing that is computed depends on what lies before the canvas or a row
 --     Known      an answer is known by its number and value
@@ -30,6 +31,7 @@ pub mod Refined
 pub mod Spreads
 pub mod Prepared
 pub mod Whole
+pub mod Views
 pub mod Enough
 pub mod Before
 pub mod Known
