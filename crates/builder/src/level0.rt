@@ -37,13 +37,7 @@ impl<'a> Level0<'a> {
 }
 
 // The view is made here, not by the caller: the checker covers callers with plain parameters alone, and what touches the view is proved by hand.
-pub fn source_row<'a>(
-    src: &'a [u8],
-    src_pitch: usize,
-    width: usize,
-    height: usize,
-    y: usize,
-) -> &'a [u8]
+pub fn source_row(src: &[u8], src_pitch: usize, width: usize, height: usize, y: usize) -> &[u8]
     requires { ⌜ (y < height → y * «src_pitch» + width ≤ length (now src)) ⌝ }
     ensures { λ r. ⌜ now r ≡ cond (ltb y height) (fetch (now (src .entry)) (y * «src_pitch») width) [] ⌝ }
 {
