@@ -1,15 +1,15 @@
--- A loop that writes out[i] = f i from the front: what it knows at its head, one store more, and its end. Assumes nothing.
+-- A loop that writes out[i] = f i from the front: what it knows at its head, one store more, its end, and a part made by one call. Assumes nothing.
 use mathlib.Core.Path.{_≡_, sym, ap, _∙_}
-use mathlib.Core.List.{List}
+use mathlib.Core.List.{List, _++_}
 use mathlib.Core.Logic.{⊎-elim}
-use Prim.Native.Nat.{ℕ, _+_, _≤_, _<_}
+use Prim.Native.Nat.{ℕ, _+_, _-_, _≤_, _<_}
 use native.Mathlib.Nat.{le-of-suc-le-suc, eq-or-lt-of-le}
 use native.Mathlib.Numerals.{add-one}
 use native.Mathlib.Omega.{arith}
-use lib.ListN.{length, getD, set, length-set}
+use lib.ListN.{length, getD, set, take, drop, length-set}
 use lib.Seq.{getD-set-same, getD-set-other}
-use Rattle.filters.specs.Row.{tab}
-use Rattle.filters.proofs.Tables.{is-tab}
+use Rattle.filters.specs.Row.{tab, meanOf, meansOf}
+use Rattle.filters.proofs.Tables.{tab-length, tab-at, is-tab, means-from, part-length, back-length, back-front}
 
 pub record Filled (f : ℕ → ℕ) (out : List ℕ) (n i : ℕ) : Type 0 where
   pub most : i ≤ n
@@ -33,3 +33,20 @@ filled-more {f} {out} {n} {i} {v} h lt e =
 
 pub filled-whole : {f : ℕ → ℕ} {out : List ℕ} {n i : ℕ} → Filled f out n i → n ≤ i → out ≡ tab f n
 filled-whole {f} {out} {n} {i} h le = is-tab out f n (h .long) (λ j lt. h .done j (omega arith))
+
+-- a part that starts at the first place not yet made, lent and made by the rule
+pub filled-part : {f : ℕ → ℕ} {out : List ℕ} {n i : ℕ} → Filled f out n i → (e : ℕ) → i ≤ e → e ≤ n → (k : List ℕ) → k ≡ tab (λ j. f (i + j)) (e - i) → Filled f (take i out ++ (k ++ drop (e - i) (drop i out))) n e
+filled-part {f} {out} {n} {i} h e ordered fits k made =
+    let whole : length k ≡ e - i = ap length made ∙ tab-length (λ j. f (i + j)) (e - i) in
+    let inside : e ≤ length out = omega (arith, h .long) in
+    record {
+      most = fits;
+      long = back-length out k i e ordered inside whole ∙ h .long;
+      done = back-front out k i e ordered inside whole f (h .done) (λ j lt. ap (λ (l : List ℕ). getD l j 0) made ∙ tab-at (λ j. f (i + j)) (e - i) j lt);
+    }
+
+-- the same for means, made of the two rows from the part's place on
+pub means-part : (a b x y out k : List ℕ) (n i e : ℕ) → Filled (λ j. meanOf (getD a j 0) (getD b j 0)) out n i → i ≤ e → e ≤ n → x ≡ drop i a → y ≡ drop i b → k ≡ meansOf (length (take (e - i) (drop i out))) x y → Filled (λ j. meanOf (getD a j 0) (getD b j 0)) (take i out ++ (k ++ drop (e - i) (drop i out))) n e
+means-part a b x y out k n i e h ordered fits from-a from-b made =
+    filled-part h e ordered fits k
+    (made ∙ ap (λ (m : ℕ). meansOf m x y) (part-length out i e ordered (omega (arith, h .long))) ∙ means-from (e - i) i a b x y from-a from-b)

@@ -16,7 +16,7 @@ use Rattle.filters.specs.Row.{Reach, tab, meanOf, meansOf, sixAt, sixes,
 use Rattle.filters.specs.Refine.{isMean, leadOf, tailOf, halfPel, placed, nextAt, nextMeans, halfHorizontal, halfVertical}
 use Rattle.filters.proofs.Tests.{below-or, or-yes}
 use Rattle.filters.proofs.Filling.{Filled, filled-more, filled-whole}
-use Rattle.filters.proofs.Tables.{tab-at, tab-length, tab-ext, take-tab, back-tab}
+use Rattle.filters.proofs.Tables.{tab-at, tab-length, tab-ext, take-tab, part-length, back-tab}
 
 module _ (k : HalfPel) (i n m2 m1 c0 p1 p2 p3 : ℕ) where
   placed-copy : n ≤ i + 1 → c0 ≡ placed k i n m2 m1 c0 p1 p2 p3
@@ -153,8 +153,7 @@ module _ (k : HalfPel) (n : ℕ) (r : List ℕ) {m1 c0 p1 p2 p3 : List ℕ} (par
       let a = leadOf k in
       let e = n - tailOf k in
       let ol : length o ≡ n = ap length edges ∙ tab-length (nextAt n r) n in
-      let sl : length (take (e - a) (drop a o)) ≡ e - a = length-take-le (e - a) (drop a o) (omega (arith, length-drop a o)) in
-      let is : s ≡ tab inner (e - a) = kernel ∙ ap (tab inner) sl in
+      let is : s ≡ tab inner (e - a) = kernel ∙ ap (tab inner) (part-length o a e (omega arith) (omega arith)) in
       let edge : (i : ℕ) → i < n → isMean k i n ≡ true → getD o i 0 ≡ f i = λ i lt t. ap (λ (l : List ℕ). getD l i 0) edges ∙ tab-at (nextAt n r) n i lt ∙ by-edges k n r i t in
       back-tab o s a e (omega arith) (omega arith) (ap length is ∙ tab-length inner (e - a)) f n ol
       (λ i lt. edge i (omega arith) (at-front k n r i lt))

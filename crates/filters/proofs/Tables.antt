@@ -7,7 +7,7 @@ use native.Mathlib.Nat.{le-of-suc-le-suc, eq-or-lt-of-le}
 use native.Mathlib.Omega.{arith}
 use lib.ListN.{length, getD, take, drop, replicate, length-append, length-drop, length-replicate, getD-replicate, List·getD-append}
 use lib.Seq.{ext-getD, getD-append-seam, getD-append-add, getD-take, getD-drop, length-take-le}
-use Rattle.filters.specs.Row.{Six, tab, sixAt, sixes}
+use Rattle.filters.specs.Row.{Six, tab, meanOf, meansOf, sixAt, sixes}
 use Rattle.filters.proofs.Tests.{below-or}
 
 pub tab-length : (f : ℕ → ℕ) (n : ℕ) → length (tab f n) ≡ n
@@ -36,30 +36,34 @@ pub sixes-ext : (k l : Six) (n : ℕ) (m2 m1 c0 p1 p2 p3 : List ℕ) → ((a b c
 unfolding sixes
 sixes-ext k l n m2 m1 c0 p1 p2 p3 same = tab-ext (sixAt k m2 m1 c0 p1 p2 p3) (sixAt l m2 m1 c0 p1 p2 p3) n (λ i h. same (getD m2 i 0) (getD m1 i 0) (getD c0 i 0) (getD p1 i 0) (getD p2 i 0) (getD p3 i 0))
 
+pub means-from : (m at : ℕ) (a b x y : List ℕ) → x ≡ drop at a → y ≡ drop at b → meansOf m x y ≡ tab (λ j. meanOf (getD a (at + j) 0) (getD b (at + j) 0)) m
+unfolding meansOf
+means-from m at a b x y ex ey = rw (ex, ey) (tab-ext (λ j. meanOf (getD (drop at a) j 0) (getD (drop at b) j 0)) (λ j. meanOf (getD a (at + j) 0) (getD b (at + j) 0)) m (λ j lt. rw (getD-drop at a j 0, getD-drop at b j 0) refl))
+
 pub take-tab : (n : ℕ) (l : List ℕ) → n ≤ length l → take n l ≡ tab (λ i. getD l i 0) n
 take-tab n l le = is-tab (take n l) (λ i. getD l i 0) n (length-take-le n l le) (λ i h. getD-take n l i 0 h)
 
 pub zeros-tab : (n : ℕ) → replicate n 0 ≡ tab (λ i. 0) n
 zeros-tab n = is-tab (replicate n 0) (λ i. 0) n (length-replicate n 0) (λ i h. getD-replicate n i 0 0 h)
 
+pub part-length : (l : List ℕ) (a e : ℕ) → a ≤ e → e ≤ length l → length (take (e - a) (drop a l)) ≡ e - a
+part-length l a e ordered fits = length-take-le (e - a) (drop a l) (omega (arith, length-drop a l))
+
 -- ---- a part that was lent and came back
 module _ (o k : List ℕ) (a e : ℕ) (ordered : a ≤ e) (fits : e ≤ length o) (whole : length k ≡ e - a) where
-  back : List ℕ
+  abbrev back : List ℕ
   back = take a o ++ (k ++ drop (e - a) (drop a o))
 
   front : length (take a o) ≡ a
   front = length-take-le a o (omega arith)
 
-  back-length : length back ≡ length o
-  unfolding back
+  pub back-length : length back ≡ length o
   back-length = simp (length-append, length-drop) (omega (arith, front))
 
   back-before : (i : ℕ) → i < a → getD back i 0 ≡ getD o i 0
-  unfolding back
   back-before i lt = List·getD-append (take a o) (k ++ drop (e - a) (drop a o)) 0 i (omega (arith, front)) ∙ getD-take a o i 0 lt
 
   past-front : (j : ℕ) → getD back (a + j) 0 ≡ getD (k ++ drop (e - a) (drop a o)) j 0
-  unfolding back
   past-front j = ap (λ (m : ℕ). getD back (m + j) 0) (sym front) ∙ getD-append-add (take a o) (k ++ drop (e - a) (drop a o)) j 0
 
   back-in : (j : ℕ) → j < e - a → getD back (a + j) 0 ≡ getD k j 0
@@ -77,18 +81,22 @@ module _ (o k : List ℕ) (a e : ℕ) (ordered : a ≤ e) (fits : e ≤ length o
       ∙ getD-drop a o (e - a + d) 0
       ∙ ap (λ (m : ℕ). getD o m 0) (sym split)
 
-  -- the row is by the rule h: before the part, in it, and past it
-  pub back-tab : (h : ℕ → ℕ) (n : ℕ) → length o ≡ n → ((i : ℕ) → i < a → getD o i 0 ≡ h i) → ((j : ℕ) → j < e - a → getD k j 0 ≡ h (a + j)) → ((i : ℕ) → e ≤ i → i < n → getD o i 0 ≡ h i) → take a o ++ (k ++ drop (e - a) (drop a o)) ≡ tab h n
-  unfolding back
-  back-tab h n long before within past =
-      is-tab back h n (back-length ∙ long)
-      (λ i lt.
+  -- by the rule h: before the part and in it
+  pub back-front : (h : ℕ → ℕ) → ((i : ℕ) → i < a → getD o i 0 ≡ h i) → ((j : ℕ) → j < e - a → getD k j 0 ≡ h (a + j)) → (i : ℕ) → i < e → getD back i 0 ≡ h i
+  back-front h before within i lt =
       ⊎-elim
       (λ (b : i < a). back-before i b ∙ before i b)
       (λ (nb : a ≤ i).
       let split : i ≡ a + (i - a) = omega arith in
+      ap (λ (m : ℕ). getD back m 0) split ∙ back-in (i - a) (omega arith) ∙ within (i - a) (omega arith) ∙ ap h (sym split))
+      (below-or i a)
+
+  -- and past it
+  pub back-tab : (h : ℕ → ℕ) (n : ℕ) → length o ≡ n → ((i : ℕ) → i < a → getD o i 0 ≡ h i) → ((j : ℕ) → j < e - a → getD k j 0 ≡ h (a + j)) → ((i : ℕ) → e ≤ i → i < n → getD o i 0 ≡ h i) → back ≡ tab h n
+  back-tab h n long before within past =
+      is-tab back h n (back-length ∙ long)
+      (λ i lt.
       ⊎-elim
-      (λ (w : i < e). ap (λ (m : ℕ). getD back m 0) split ∙ back-in (i - a) (omega arith) ∙ within (i - a) (omega arith) ∙ ap h (sym split))
+      (λ (w : i < e). back-front h before within i w)
       (λ (p : e ≤ i). back-past i p ∙ past i p lt)
       (below-or i e))
-      (below-or i a))

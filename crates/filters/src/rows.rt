@@ -9,8 +9,8 @@ pub fn mean(a: u8, b: u8) -> u8
     (((a as u16) + (b as u16) + 1) >> 1) as u8
 }
 
-// The means of two rows, place by place.
-pub fn mean_row(out: &mut [u8], a: &[u8], b: &[u8])
+// The means of two rows, byte by byte.
+fn mean_bytes(out: &mut [u8], a: &[u8], b: &[u8])
     requires { ⌜ (length (now out) ≤ length (now a)) × (length (now out) ≤ length (now b)) ⌝ }
     ensures { λ r. ⌜ now (out .exit) ≡ meansOf (length (now (out .entry))) (now (a .entry)) (now (b .entry)) ⌝ }
 {
@@ -18,6 +18,32 @@ pub fn mean_row(out: &mut [u8], a: &[u8], b: &[u8])
     for i in 0..n {
         out[i] = mean(a[i], b[i]);
     }
+}
+
+const BLOCK: usize = 64;
+
+// All means of a block are made before the first is stored: so the compiler makes vectors of them without a test that the rows don't overlap.
+fn mean_block(out: &mut [u8], a: &[u8], b: &[u8])
+    requires { ⌜ (length (now out) ≡ 64) × (64 ≤ length (now a)) × (64 ≤ length (now b)) ⌝ }
+    ensures { λ r. ⌜ now (out .exit) ≡ meansOf (length (now (out .entry))) (now (a .entry)) (now (b .entry)) ⌝ }
+{
+    let mut block = [0u8; BLOCK];
+    mean_bytes(&mut block, a, b);
+    copy_row(out, &block);
+}
+
+// The means of two rows, place by place: whole blocks, then what is left.
+pub fn mean_row(out: &mut [u8], a: &[u8], b: &[u8])
+    requires { ⌜ (length (now out) ≤ length (now a)) × (length (now out) ≤ length (now b)) ⌝ }
+    ensures { λ r. ⌜ now (out .exit) ≡ meansOf (length (now (out .entry))) (now (a .entry)) (now (b .entry)) ⌝ }
+{
+    let blocks = out.len() / BLOCK;
+    for k in 0..blocks {
+        let at = k * BLOCK;
+        mean_block(&mut out[at..at + BLOCK], rest(a, at), rest(b, at));
+    }
+    let at = blocks * BLOCK;
+    mean_bytes(&mut out[at..], rest(a, at), rest(b, at));
 }
 
 // The front of a row, as far as out is long.
