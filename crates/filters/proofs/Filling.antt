@@ -1,4 +1,4 @@
--- A loop that writes out[i] = f i from the front: what it knows at its head, one store more, its end, and a part made by one call. Assumes nothing.
+-- A loop that writes out[i] = f i from the front: what it knows at its head, one store more, its end, and parts made by one call. Assumes nothing.
 use mathlib.Core.Path.{_≡_, sym, ap, _∙_}
 use mathlib.Core.List.{List, _++_}
 use mathlib.Core.Logic.{⊎-elim}
@@ -30,6 +30,9 @@ filled-more {f} {out} {n} {i} {v} h lt e =
           (λ (less : j < i). getD-set-other out i j v 0 (λ eq. omega arith) ∙ h .done j less)
           (eq-or-lt-of-le (le-of-suc-le-suc (rw add-one at l)));
     }
+
+pub filled-fewer : {f : ℕ → ℕ} {out : List ℕ} {n i j : ℕ} → Filled f out n i → j ≤ i → Filled f out n j
+filled-fewer h le = record { most = omega (arith, h .most); long = h .long; done = λ k lt. h .done k (omega arith) }
 
 pub filled-whole : {f : ℕ → ℕ} {out : List ℕ} {n i : ℕ} → Filled f out n i → n ≤ i → out ≡ tab f n
 filled-whole {f} {out} {n} {i} h le = is-tab out f n (h .long) (λ j lt. h .done j (omega arith))

@@ -32,18 +32,23 @@ fn mean_block(out: &mut [u8], a: &[u8], b: &[u8])
     copy_row(out, &block);
 }
 
-// The means of two rows, place by place: whole blocks, then what is left.
+// The means of two rows, place by place. The last block ends with the row, and may make again what the one before it made.
 pub fn mean_row(out: &mut [u8], a: &[u8], b: &[u8])
     requires { ⌜ (length (now out) ≤ length (now a)) × (length (now out) ≤ length (now b)) ⌝ }
     ensures { λ r. ⌜ now (out .exit) ≡ meansOf (length (now (out .entry))) (now (a .entry)) (now (b .entry)) ⌝ }
 {
-    let blocks = out.len() / BLOCK;
-    for k in 0..blocks {
-        let at = k * BLOCK;
-        mean_block(&mut out[at..at + BLOCK], rest(a, at), rest(b, at));
+    let n = out.len();
+    if n < BLOCK {
+        mean_bytes(out, a, b);
+        return;
     }
-    let at = blocks * BLOCK;
-    mean_bytes(&mut out[at..], rest(a, at), rest(b, at));
+    let last = n - BLOCK;
+    let mut at = 0;
+    while at < last {
+        mean_block(&mut out[at..at + BLOCK], rest(a, at), rest(b, at));
+        at += BLOCK;
+    }
+    mean_block(&mut out[last..], rest(a, last), rest(b, last));
 }
 
 // The front of a row, as far as out is long.
