@@ -1,3 +1,4 @@
+// Rows by their bytes: a mean; the means of two rows, in blocks; a copy, zeros, and a row from a place on.
 ghost use mathlib.Core.Path.{_≡_};
 ghost use Prim.Native.Nat.{_≤_};
 ghost use lib.ListN.{length, take, drop, replicate};
