@@ -12,7 +12,13 @@ use Rattle.builder.specs.declared.layout.Region.{Region}
 use Rattle.builder.specs.declared.layout.Laid.{Laid}
 use Rattle.builder.specs.declared.layout.Ended.{Ended}
 use Rattle.builder.specs.declared.layout.Ended.the-variants.{End, Refused as EndRefused}
-use Rattle.builder.specs.Layout.{levelsOf, widthAt, rowStart, regionOr, noRegion, writtenEnd}
+use Rattle.builder.specs.declared.layout.Needs.{Needs}
+use Rattle.builder.specs.declared.layout.Needed.{Needed}
+use Rattle.builder.specs.declared.layout.Needed.the-variants.{Needs as Needing, Refused as NeedsRefused}
+use Rattle.builder.specs.declared.rows.Run.{Run}
+use Rattle.builder.specs.declared.rows.Placed.{Placed}
+use Rattle.builder.specs.declared.rows.Placed.the-variants.{At, Refused as PlaceRefused}
+use Rattle.builder.specs.Layout.{levelsOf, widthAt, rowStart, regionOr, noRegion, writtenEnd, spillNeed, scratchNeed}
 use Rattle.builder.specs.Margins.{cleared}
 use Rattle.builder.specs.Numbers.{layoutNo, frameNo, rowNo, buildNo}
 use Rattle.builder.specs.Build.{builtFrame}
@@ -39,6 +45,26 @@ layoutAnswer q = complete (layoutNo q) (columns (levelsOf q) (regionOr q)) (colu
 
 abbrev pub endAnswer : Layout → Answer ℕ
 endAnswer q = complete (layoutNo q) (writtenEnd q) 0
+
+-- what a build needs beside the frame: the needs of numbers 12 and 13
+abbrev pub needsOf : Layout → Needs
+needsOf q = record { spill = spillNeed q; scratch = scratchNeed q }
+
+abbrev pub noNeeds : Needs
+noNeeds = record { spill = 0; scratch = 0 }
+
+abbrev pub needsAnswer : Layout → Answer Needs
+needsAnswer q = complete (layoutNo q) (needsOf q) noNeeds
+
+-- where row y of plane k of level l lies, in a frame of len bytes
+abbrev pub runOf : Layout → ℕ → ℕ → ℕ → Run
+runOf q l k y = record { offset = rowStart q l k y; length = widthAt q l }
+
+abbrev pub noRun : Run
+noRun = record { offset = 0; length = 0 }
+
+abbrev pub placeAnswer : Layout → ℕ → ℕ → ℕ → ℕ → Answer Run
+placeAnswer q len l k y = complete (rowNo q len l k y) (runOf q l k y) noRun
 
 -- "A row is its level's w bytes. A refused row is the empty part"
 unfoldable pub rowPart : Layout → List ℕ → ℕ → ℕ → ℕ → List ℕ
@@ -67,3 +93,11 @@ laid a = answer (tested (a .tested)) (record { count = a .count; offsets = a .of
 abbrev pub ended : Ended → Answer ℕ
 ended (End n) = answer 0 n
 ended (EndRefused f) = answer (number f) 0
+
+abbrev pub needed : Needed → Answer Needs
+needed (Needing n) = answer 0 n
+needed (NeedsRefused f) = answer (number f) noNeeds
+
+abbrev pub placed : Placed → Answer Run
+placed (At r) = answer 0 r
+placed (PlaceRefused f) = answer (number f) noRun

@@ -1,8 +1,9 @@
 // Where a plane's levels lie in a frame: the head of open-svpflow's super_build.rs, its names kept.
-// First the types; then the regions of all levels, and where the last one ends.
+// First the types; then the regions of all levels, where the last one ends, and what a build needs beside the frame.
 ghost use mathlib.Core.Path.{_≡_};
 ghost use Rattle.builder.specs.Numbers.{layoutNo};
-ghost use Rattle.builder.specs.Answers.{ended, endAnswer, laid, layoutAnswer};
+ghost use Rattle.builder.specs.Answers.{ended, endAnswer, laid, layoutAnswer, needed, needsAnswer};
+use crate::lent;
 use crate::levels;
 use settings::limits::MOST_LEVELS;
 use settings::refusal::Refusal;
@@ -34,6 +35,17 @@ pub struct Laid {
 
 pub enum Ended {
     End(usize),
+    Refused(Refusal),
+}
+
+// The bytes that a build needs of spill and of scratch.
+pub struct Needs {
+    pub spill: usize,
+    pub scratch: usize,
+}
+
+pub enum Needed {
+    Needs(Needs),
     Refused(Refusal),
 }
 
@@ -88,6 +100,18 @@ impl Layout {
                 Ended::End(levels::offset(self, n.levels))
             }
             Tested::Refused(f) => Ended::Refused(f),
+        }
+    }
+
+    pub fn needs(self) -> Needed
+        ensures { λ r. ⌜ needed r ≡ needsAnswer self ⌝ }
+    {
+        match levels::tested(self) {
+            Tested::Fine => Needed::Needs(Needs {
+                spill: lent::spill_need(self),
+                scratch: lent::scratch_need(self),
+            }),
+            Tested::Refused(f) => Needed::Refused(f),
         }
     }
 }

@@ -43,7 +43,7 @@ pub fn spill_need(layout: Layout) -> usize
     height(layout, 1) * layout.pitch
 }
 
-fn scratch_need(layout: Layout) -> usize
+pub fn scratch_need(layout: Layout) -> usize
     requires { ⌜ layoutNo layout ≡ 0 ⌝ }
     ensures { λ r. ⌜ r ≡ scratchNeed layout ⌝ }
 {

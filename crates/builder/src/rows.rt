@@ -1,10 +1,10 @@
-// A row of a frame, as the caller's own bytes, and the number that says whether there is one.
+// A row of a frame: the number that says whether there is one, where it lies, and its bytes, which are the caller's own.
 ghost use mathlib.Core.Path.{_≡_};
 ghost use mathlib.Core.Bool.{false};
 ghost use Rattle.settings.specs.Answers.{tested};
 ghost use Rattle.builder.specs.Layout.{rowStart};
 ghost use Rattle.builder.specs.Numbers.{layoutNo, noRow, rowNo};
-ghost use Rattle.builder.specs.Answers.{rowPart};
+ghost use Rattle.builder.specs.Answers.{placed, placeAnswer, rowPart};
 use crate::layout::Layout;
 use crate::levels::frame_tested;
 use crate::levels::height;
@@ -13,6 +13,17 @@ use crate::levels::stored;
 use crate::levels::width;
 use settings::refusal::Refusal;
 use settings::refusal::Tested;
+
+// A run of bytes in a frame.
+pub struct Run {
+    pub offset: usize,
+    pub length: usize,
+}
+
+pub enum Placed {
+    At(Run),
+    Refused(Refusal),
+}
 
 // A level that isn't there is told first: its height would take as many steps as its number.
 fn no_row(layout: Layout, level: u32, plane: usize, y: usize) -> bool
@@ -44,6 +55,19 @@ fn row_start(layout: Layout, level: u32, plane: usize, y: usize) -> usize
 {
     let h = height(layout, level);
     offset(layout, level) + (plane * h + y) * layout.pitch
+}
+
+// Where row y of a plane of a level lies, in a frame of len bytes.
+pub fn row_place(layout: Layout, len: usize, level: u32, plane: usize, y: usize) -> Placed
+    ensures { λ r. ⌜ placed r ≡ placeAnswer layout len level plane y ⌝ }
+{
+    match row_tested(layout, len, level, plane, y) {
+        Tested::Fine => Placed::At(Run {
+            offset: row_start(layout, level, plane, y),
+            length: width(layout, level),
+        }),
+        Tested::Refused(f) => Placed::Refused(f),
+    }
 }
 
 // Row y of a plane of a level: a part of the frame, empty when refused.
