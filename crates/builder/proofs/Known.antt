@@ -1,27 +1,39 @@
 -- An answer is known by its number and value. Assumes nothing.
-use mathlib.Core.Path.{_≡_, sym, ap}
+use mathlib.Core.Path.{_≡_, ap}
 use mathlib.Core.List.{List}
 use Prim.Native.Nat.{ℕ}
-use borrow.Author.Tests.{eqb-false}
-use Rattle.settings.specs.declared.refusal.Refusal.{Refusal}
 use Rattle.settings.specs.declared.refusal.Tested.{Tested}
-use Rattle.settings.specs.declared.refusal.Tested.the-variants.{Refused as TestRefused}
 use Rattle.settings.specs.Answers.{Answer, answer, number, tested}
-use Rattle.settings.proofs.Known.{number-some, tested-known}
+use Rattle.settings.proofs.Known.{known-by, from, value-back, refusal-back, tested-known}
 use Rattle.builder.specs.declared.layout.Laid.{Laid}
 use Rattle.builder.specs.declared.layout.Ended.{Ended}
 use Rattle.builder.specs.declared.layout.Ended.the-variants.{End, Refused as EndRefused}
-use Rattle.builder.specs.Answers.{Columns, laid, ended}
+use Rattle.builder.specs.declared.layout.Needed.{Needed}
+use Rattle.builder.specs.declared.layout.Needed.the-variants.{Needs as Needing, Refused as NeedsRefused}
+use Rattle.builder.specs.declared.rows.Placed.{Placed}
+use Rattle.builder.specs.declared.rows.Placed.the-variants.{At, Refused as PlaceRefused}
+use Rattle.builder.specs.Answers.{Columns, laid, ended, needed, noNeeds, placed, noRun}
 
--- a refusal is known by its number
-pub number-known : (f g : Refusal) → number f ≡ number g → f ≡ g
-number-known f g e = let t = tested-known (TestRefused f) (TestRefused g) e in cc
+ended-back : (a : Ended) → from End EndRefused (ended a) ≡ a
+ended-back (End n) = value-back End EndRefused n
+ended-back (EndRefused f) = refusal-back End EndRefused f 0
 
 pub ended-known : (a b : Ended) → ended a ≡ ended b → a ≡ b
-ended-known (End m) (End n) e = ap (λ (x : Answer ℕ). End (x .value)) e
-ended-known (End m) (EndRefused g) e = absurd (eqb-false (number g) 0 (number-some g) (sym (ap (λ (x : Answer ℕ). x .no) e)))
-ended-known (EndRefused f) (End n) e = absurd (eqb-false (number f) 0 (number-some f) (ap (λ (x : Answer ℕ). x .no) e))
-ended-known (EndRefused f) (EndRefused g) e = ap EndRefused (number-known f g (ap (λ (x : Answer ℕ). x .no) e))
+ended-known = known-by ended (from End EndRefused) ended-back
+
+needed-back : (a : Needed) → from Needing NeedsRefused (needed a) ≡ a
+needed-back (Needing n) = value-back Needing NeedsRefused n
+needed-back (NeedsRefused f) = refusal-back Needing NeedsRefused f noNeeds
+
+pub needed-known : (a b : Needed) → needed a ≡ needed b → a ≡ b
+needed-known = known-by needed (from Needing NeedsRefused) needed-back
+
+placed-back : (a : Placed) → from At PlaceRefused (placed a) ≡ a
+placed-back (At r) = value-back At PlaceRefused r
+placed-back (PlaceRefused f) = refusal-back At PlaceRefused f noRun
+
+pub placed-known : (a b : Placed) → placed a ≡ placed b → a ≡ b
+placed-known = known-by placed (from At PlaceRefused) placed-back
 
 by-columns : (t u : Tested) (m n : ℕ) (o p w x h g : List ℕ) → t ≡ u → m ≡ n → o ≡ p → w ≡ x → h ≡ g → _≡_ {A = Laid} (record { tested = t; count = m; offsets = o; widths = w; heights = h }) (record { tested = u; count = n; offsets = p; widths = x; heights = g })
 by-columns t u m n o p w x h g a b c d e = rw (a, b, c, d, e)

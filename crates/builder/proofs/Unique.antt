@@ -7,10 +7,12 @@ use denote.Ref.{now}
 use Rattle.settings.specs.declared.refusal.Tested.{Tested}
 use Rattle.settings.proofs.Outcome.{OneOutcome, settled, itself}
 use Rattle.settings.proofs.Known.{tested-known}
-use Rattle.builder.proofs.Known.{laid-known, ended-known, left-known}
+use Rattle.builder.proofs.Known.{laid-known, ended-known, needed-known, placed-known, left-known}
 use Rattle.builder.proofs.layout.Layout.level_regions.Reads as level-regions-reads
 use Rattle.builder.proofs.layout.Layout.written_end.Reads as written-end-reads
+use Rattle.builder.proofs.layout.Layout.needs.Reads as needs-reads
 use Rattle.builder.proofs.rows.row_tested.Reads as row-tested-reads
+use Rattle.builder.proofs.rows.row_place.Reads as row-place-reads
 use Rattle.builder.proofs.rows.row.Reads as row-reads
 use Rattle.builder.proofs.margins.clear_margins.Reads as clear-margins-reads
 use Rattle.builder.proofs.build.build_plane.Reads as build-plane-reads
@@ -84,8 +86,14 @@ level-regions-unique κs x r s e f p q = settled laid-known p q
 pub written-end-unique : (κs : Lfts 0) → OneOutcome (written-end-reads.Post κs) (λ r e. r)
 written-end-unique κs x r s e f p q = settled ended-known p q
 
+pub needs-unique : (κs : Lfts 0) → OneOutcome (needs-reads.Post κs) (λ r e. r)
+needs-unique κs x r s e f p q = settled needed-known p q
+
 pub row-tested-unique : (κs : Lfts 0) → OneOutcome (row-tested-reads.Post κs) (λ r e. r)
 row-tested-unique κs x r s e f p q = settled tested-known p q
+
+pub row-place-unique : (κs : Lfts 0) → OneOutcome (row-place-reads.Post κs) (λ r e. r)
+row-place-unique κs x r s e f p q = settled placed-known p q
 
 -- the bytes of the row
 pub row-unique : (κs : Lfts 1) → OneOutcome (row-reads.Post κs) (λ r e. now r)

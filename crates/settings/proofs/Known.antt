@@ -68,7 +68,7 @@ refused n f a none e = rw (← e, number-some f)
 
 -- ---- an answer is known by its number and value
 -- f is known by its value, where g takes it back
-known-by : {A B : Type 0} (f : A → B) (g : B → A) → ((a : A) → g (f a) ≡ a) → (a b : A) → f a ≡ f b → a ≡ b
+pub known-by : {A B : Type 0} (f : A → B) (g : B → A) → ((a : A) → g (f a) ≡ a) → (a b : A) → f a ≡ f b → a ≡ b
 known-by f g back a b e = sym (back a) ∙ ap g e ∙ back b
 
 abbrev tested-from : ℕ → Tested
@@ -83,13 +83,13 @@ tested-known = known-by tested tested-from tested-back
 
 -- an answer of two cases: the value given, or the refusal
 module _ {A E : Type 0} (value : A → E) (refusal : Refusal → E) where
-  abbrev from : Answer A → E
+  abbrev pub from : Answer A → E
   from a = cond (eqb (a .no) 0) (value (a .value)) (refusal (refusalOf (a .no)))
 
-  value-back : (a : A) → from (answer 0 a) ≡ value a
+  pub value-back : (a : A) → from (answer 0 a) ≡ value a
   value-back a = refl
 
-  refusal-back : (f : Refusal) (none : A) → from (answer (number f) none) ≡ refusal f
+  pub refusal-back : (f : Refusal) (none : A) → from (answer (number f) none) ≡ refusal f
   refusal-back f none = rw (number-some f, number-back f)
 
 checked-back : (a : Checked) → from Accepted CheckRefused (checked a) ≡ a
