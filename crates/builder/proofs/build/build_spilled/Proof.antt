@@ -33,13 +33,13 @@ build-levels-requires c κs =
     ready-lent r refl (omega (arith, at-zero-row .zero-row .kept .0, part at-spill-need, at-spill-need .spill-need .ensures)) (r .room)
 
 same-length : tie.Need-same-length
-same-length c = search needs
+same-length c = c .before .before .before .before .before .before .build-levels .kept .0
 
 same-length-2 : tie.Need-same-length-2
 same-length-2 c = search needs
 
 same-length-3 : tie.Need-same-length-3
-same-length-3 c = search needs
+same-length-3 c = c .before .before .before .before .before .before .build-levels .kept .1 .1 .0
 
 returns : tie.Need-returns
 returns c =

@@ -14,7 +14,7 @@ read-requires : tie.Need-read-requires
 read-requires c κs = search needs
 
 same-length : tie.Need-same-length
-same-length c = search needs
+same-length c = c .before .before .read .kept .0
 
 returns : tie.Need-returns
 returns c = let a = c .before .before .before .before .before .before .before .before .args in c .before .before .read .ensures ∙ fetch-right (now (a .frame)) (now (a .spill)) (a .start) (length (now (a .out))) (c .before .before .before .before .if1 .taken)
@@ -35,7 +35,7 @@ copy-row-requires : tie.Need-copy-row-requires
 copy-row-requires c κs = search needs
 
 same-length-2 : tie.Need-same-length-2
-same-length-2 c = search needs
+same-length-2 c = c .before .before .copy-row .kept .0
 
 returns-2 : tie.Need-returns-2
 returns-2 c =

@@ -16,7 +16,7 @@ put-requires : tie.Need-put-requires
 put-requires c κs = search needs
 
 same-length : tie.Need-same-length
-same-length c = search needs
+same-length c = c .before .before .put .kept .0
 
 returns : tie.Need-returns
 returns c =
@@ -35,7 +35,7 @@ put-requires-2 : tie.Need-put-requires-2
 put-requires-2 c κs = search needs
 
 same-length-2 : tie.Need-same-length-2
-same-length-2 c = search needs
+same-length-2 c = c .before .before .put2 .kept .0
 
 returns-2 : tie.Need-returns-2
 returns-2 c =
@@ -62,10 +62,10 @@ put-requires-4 : tie.Need-put-requires-4
 put-requires-4 c κs = search needs
 
 same-length-3 : tie.Need-same-length-3
-same-length-3 c = search needs
+same-length-3 c = c .before .before .before .before .before .before .before .put3 .kept .0
 
 same-length-4 : tie.Need-same-length-4
-same-length-4 c = search needs
+same-length-4 c = c .before .before .put4 .kept .0
 
 returns-3 : tie.Need-returns-3
 returns-3 c =

@@ -39,10 +39,17 @@ zero-run-requires : tie.Need-zero-run-requires
 zero-run-requires c κs = (omega (arith, c .before .before .before .before .before .before .before .before .before .before .before .before .before .before .before .before .before .before .before .pre .0 .fits), omega (arith, row-within (c .before .before .before .before .before .before .before .before .before .before .before .before .before .before .before .before .before .before .before .pre .0) (c .before .before .before .before .before .before .before .before .before .before .before .before .before .before .before .before .before .before .before .pre .1), c .before .before .before .before .before .before .before .before .before .before .before .before .before .before .vertical-row .kept .1 .0, c .before .before .before .before .before .before .before .before .before .before .before .before .before .before .vertical-row .kept .1 .1 .0, c .before .before .before .before .before .before .halve-row .kept .1 .0))
 
 same-length : tie.Need-same-length
-same-length c = search needs
+same-length c =
+    let at-zero-run = c .before .before in
+    let at-halve-row = at-zero-run .before .before .before .before .before .before .before in
+    let at-vertical-row = at-halve-row .before .before .before .before .before .before .before .before in
+    at-zero-run .zero-run .kept .0 ∙ at-halve-row .halve-row .kept .1 .0 ∙ at-vertical-row .vertical-row .kept .1 .0
 
 same-length-2 : tie.Need-same-length-2
-same-length-2 c = search needs
+same-length-2 c =
+    let at-halve-row = c .before .before .before .before .before .before .before .before .before in
+    let at-vertical-row = at-halve-row .before .before .before .before .before .before .before .before in
+    at-halve-row .halve-row .kept .1 .1 .0 ∙ at-vertical-row .vertical-row .kept .1 .1 .0
 
 returns : tie.Need-returns
 returns c =

@@ -12,10 +12,16 @@ horizontal-rows-requires : tie.Need-horizontal-rows-requires
 horizontal-rows-requires c κs = search needs
 
 same-length : tie.Need-same-length
-same-length c = search needs
+same-length c =
+    let at-horizontal-rows = c .before .before .before .before in
+    let at-vertical-rows = at-horizontal-rows .before .before .before .before .before .before .before in
+    at-horizontal-rows .horizontal-rows .kept .1 .0 ∙ at-vertical-rows .vertical-rows .kept .1 .0
 
 same-length-2 : tie.Need-same-length-2
-same-length-2 c = search needs
+same-length-2 c =
+    let at-horizontal-rows = c .before .before .before .before in
+    let at-vertical-rows = at-horizontal-rows .before .before .before .before .before .before .before in
+    at-horizontal-rows .horizontal-rows .kept .1 .1 .0 ∙ at-vertical-rows .vertical-rows .kept .1 .1 .0
 
 returns : tie.Need-returns
 unfolding fromStored

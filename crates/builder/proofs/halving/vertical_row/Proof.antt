@@ -33,7 +33,7 @@ put-requires : tie.Need-put-requires
 put-requires c κs = omega (arith, row-within (c .before .before .before .before .before .before .before .before .before .before .before .before .pre .0) (c .before .before .before .before .before .before .before .before .before .before .before .before .pre .1), c .before .before .before .before .before .before .before .before .before .before .before .before .pre .0 .fits, c .before .before .before .before .before .vertical-line .kept .1 .0, length-take-le (2 * c .before .before .before .before .before .before .before .before .before .before .before .before .args .target .width) (now (c .before .before .before .before .before .before .before .before .before .before .before .before .args .scratch)) (omega (arith, c .before .before .before .before .before .before .before .before .before .before .before .before .pre .0 .fits, c .before .before .before .before .before .before .before .before .before .before .before .before .pre .0 .room)))
 
 same-length : tie.Need-same-length
-same-length c = search needs
+same-length c = c .before .before .before .before .put .kept .0
 
 same-length-2 : tie.Need-same-length-2
 same-length-2 c = search needs

@@ -35,7 +35,7 @@ clear-rows-requires c κs =
     rw t (width-fits q (allowed q (s .pre .0)) l (s .pre .1), omega (arith, level-end q l (s .pre .2), bytes-later q l (s .pre .1), s .pre .3))
 
 same-length : tie.Need-same-length
-same-length c = search needs
+same-length c = c .before .before .clear-rows .kept .0
 
 returns-2 : tie.Need-returns-2
 unfolding clearLevel

@@ -36,7 +36,7 @@ clear-levels-requires : tie.Need-clear-levels-requires
 clear-levels-requires c κs = let r = framed _ _ (passed c) in (r .layout, r .end)
 
 same-length : tie.Need-same-length
-same-length c = search needs
+same-length c = c .before .before .clear-levels .kept .0
 
 returns-2 : tie.Need-returns-2
 returns-2 c =

@@ -40,10 +40,10 @@ store-requires c κs =
     omega (arith, c .before .before .before .before .before .before .vertical-line .kept .1 .0, spread-line (now (s .args .scratch)) (s .pre .0), s .pre .0 .fits, spread-at (s .pre .0) (s .pre .1))
 
 same-length : tie.Need-same-length
-same-length c = search needs
+same-length c = c .before .before .before .before .before .before .store .kept .0
 
 same-length-2 : tie.Need-same-length-2
-same-length-2 c = search needs
+same-length-2 c = c .before .before .before .before .before .before .store .kept .1 .0
 
 same-length-3 : tie.Need-same-length-3
 same-length-3 c = search needs

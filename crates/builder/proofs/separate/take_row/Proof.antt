@@ -17,7 +17,7 @@ deinterleave-requires : tie.Need-deinterleave-requires
 deinterleave-requires c κs = search needs
 
 same-length : tie.Need-same-length
-same-length c = search needs
+same-length c = c .before .before .before .before .deinterleave .kept .0
 
 same-length-2 : tie.Need-same-length-2
 same-length-2 c = search needs

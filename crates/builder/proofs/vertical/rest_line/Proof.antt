@@ -49,7 +49,7 @@ cubic-rest-requires : tie.Need-cubic-rest-requires
 cubic-rest-requires c κs = search needs
 
 same-length : tie.Need-same-length
-same-length c = search needs
+same-length c = c .before .before .cubic-rest .kept .0
 
 returns : tie.Need-returns
 unfolding restLine

@@ -36,7 +36,7 @@ mean-row-requires : tie.Need-mean-row-requires
 mean-row-requires c κs = search needs
 
 same-length : tie.Need-same-length
-same-length c = search needs
+same-length c = c .before .before .mean-row .kept .0
 
 returns : tie.Need-returns
 returns c =
@@ -51,7 +51,7 @@ inner-line-requires c κs =
     inner-reach (a .args .filter) (a .pre .0) (a .pre .1) (sym (c .before .before .vertical-edge .ensures) ∙ c .before .if1 .left)
 
 same-length-2 : tie.Need-same-length-2
-same-length-2 c = search needs
+same-length-2 c = c .before .before .inner-line .kept .1 .0
 
 returns-2 : tie.Need-returns-2
 returns-2 c =

@@ -63,7 +63,7 @@ vertical-filter-requires : tie.Need-vertical-filter-requires
 vertical-filter-requires c κs = search needs
 
 same-length : tie.Need-same-length
-same-length c = search needs
+same-length c = c .before .before .vertical-filter .kept .1 .0
 
 returns : tie.Need-returns
 returns c =

@@ -30,7 +30,7 @@ put-requires c κs =
     omega (arith, at-horizontal .horizontal .kept .1 .0, length-take-le (a .self .width) (now (a .scratch)) (omega (arith, entered .pre)), entered .pre)
 
 same-length : tie.Need-same-length
-same-length c = search needs
+same-length c = c .before .before .before .before .put .kept .0
 
 same-length-2 : tie.Need-same-length-2
 same-length-2 c = search needs

@@ -1,4 +1,5 @@
 -- `kernel_planes` meets its contract. Assumes nothing.
+use mathlib.Core.Path.{_∙_}
 use Prim.Native.Nat.{_-_}
 use native.Mathlib.Omega.{arith}
 use denote.Ref.{now}
@@ -42,10 +43,18 @@ horizontal-requires-2 c κs =
     horizontal-fits (planes-kept (planes-kept (entered .pre .1) (at-horizontal .horizontal .kept .1 .1 .0) (at-horizontal .horizontal .kept .1 .1 .1 .0)) (at-vertical .vertical .kept .1 .1 .0) (at-vertical .vertical .kept .1 .1 .1 .0)) (a .d) _ (a .b) _ (omega arith) (at-plane3 .plane3 .ensures) (omega (arith, entered .pre .0 .below)) (at-plane2 .plane2 .ensures)
 
 same-length : tie.Need-same-length
-same-length c = search needs
+same-length c =
+    let at-horizontal2 = c .before .before .before .before in
+    let at-vertical = at-horizontal2 .before .before .before .before .before .before .before in
+    let at-horizontal = at-vertical .before .before .before .before .before .before .before in
+    at-horizontal2 .horizontal2 .kept .1 .1 .0 ∙ at-vertical .vertical .kept .1 .1 .0 ∙ at-horizontal .horizontal .kept .1 .1 .0
 
 same-length-2 : tie.Need-same-length-2
-same-length-2 c = search needs
+same-length-2 c =
+    let at-horizontal2 = c .before .before .before .before in
+    let at-vertical = at-horizontal2 .before .before .before .before .before .before .before in
+    let at-horizontal = at-vertical .before .before .before .before .before .before .before in
+    at-horizontal2 .horizontal2 .kept .1 .1 .1 .0 ∙ at-vertical .vertical .kept .1 .1 .1 .0 ∙ at-horizontal .horizontal .kept .1 .1 .1 .0
 
 returns : tie.Need-returns
 returns c =

@@ -40,7 +40,7 @@ put-requires c κs =
     omega (arith, row-in (a .y) (i .height) (i .pitch) (entered .pre .0), entered .pre .1 .target, entered .pre .1 .fits, at-vertical-line .vertical-line .kept .1 .1 .0, length-take-le (i .width) (now (a .scratch)) (entered .pre .1 .room))
 
 same-length : tie.Need-same-length
-same-length c = search needs
+same-length c = c .before .before .before .before .put .kept .0
 
 same-length-2 : tie.Need-same-length-2
 same-length-2 c = search needs
