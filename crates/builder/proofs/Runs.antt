@@ -8,6 +8,9 @@ use native.Mathlib.Numerals.{add-one, add-one-le}
 use native.Mathlib.Omega.{arith}
 use lib.ListN.{length, getD, take, drop, replicate, length-append, length-take, length-drop, length-replicate, getD-replicate, take-append-drop, drop-of-length-le, List·getD-append, List·getD-eq-default}
 use lib.Seq.{take-at, drop-at, take-all, getD-take, getD-drop, getD-append-add, length-take-le, take-append-le, drop-append-le, take-append-add, drop-append-add}
+use mir.Syntax.{Width}
+use mir.Val.{Fits}
+use mir.Facts.{fits-le}
 use Rattle.filters.proofs.Tests.{below-or}
 use Rattle.filters.proofs.Tables.{tab-length, tab-at, is-tab}
 use Rattle.builder.specs.Canvas.{fetch, put, steps}
@@ -280,6 +283,13 @@ steps-next step n c = rw (add-one n)
 -- two lists that kept their lengths
 pub both-lengths : (F S G T : List ℕ) → length F ≡ length G → length S ≡ length T → length (F ++ S) ≡ length (G ++ T)
 both-lengths F S G T e f = length-append F S ∙ omega (arith, length-append G T)
+
+-- the next turn of a loop of h turns: its number fits, and fewer turns are left
+pub next-fits : {w : Width} {y h : ℕ} → y < h → Fits w h → Fits w (y + 1)
+next-fits lt fits = fits-le (add-one-le lt) fits
+
+pub next-less : {y h : ℕ} → y < h → h - (y + 1) < h - y
+next-less lt = omega arith
 
 -- what a loop over rows knows at its head
 pub record Walked (step : ℕ → List ℕ → List ℕ) (c₀ c : List ℕ) (h y : ℕ) : Type 0 where

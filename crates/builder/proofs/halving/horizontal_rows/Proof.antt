@@ -4,7 +4,7 @@ use Prim.Native.Nat.{_+_, _*_, _-_}
 use native.Mathlib.Omega.{arith}
 use lib.ListN.{length}
 use Rattle.builder.specs.Halving.{halveRun, horizontalRows}
-use Rattle.builder.proofs.Runs.{row-fits, Walked, walked-none, walked-more, walked-whole}
+use Rattle.builder.proofs.Runs.{row-fits, Walked, walked-none, walked-more, walked-whole, next-fits, next-less}
 use Rattle.builder.proofs.halving.horizontal_rows.Statement.{statement}
 use Rattle.builder.proofs.halving.horizontal_rows.Tie as tie
 
@@ -30,10 +30,10 @@ halve-row-requires c κs =
     (s .pre .0, omega (arith, row-fits _ _ _ _ _ _ (s .pre .1) (s .pre .2) (c .before .before .before .loop-test .taken), l .inv .0 .same), omega (arith, s .pre .3, l .inv .1))
 
 add-y : tie.Need-add-y Inv-loop μ-loop
-add-y c = omega arith
+add-y c = next-fits (c .before .before .before .before .before .before .before .before .loop-test .taken) (c .before .before .before .before .before .before .before .struct-known .given .1 .1 .0)
 
 loop-less : tie.Need-loop-less Inv-loop μ-loop
-loop-less c = omega arith
+loop-less c = next-less (c .before .before .before .before .before .before .before .before .loop-test .taken)
 
 loop-again : tie.Need-loop-again Inv-loop μ-loop
 loop-again c =

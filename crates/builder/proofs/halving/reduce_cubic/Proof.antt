@@ -6,7 +6,7 @@ use lib.ListN.{length}
 use Rattle.builder.specs.Canvas.{put}
 use Rattle.filters.specs.declared.halving.ReduceFilter.the-variants.{Cubic}
 use Rattle.builder.specs.Halving.{verticalLine, fusedLine, fused}
-use Rattle.builder.proofs.Runs.{Walked, walked-none, walked-more, walked-whole}
+use Rattle.builder.proofs.Runs.{Walked, walked-none, walked-more, walked-whole, next-less}
 use Rattle.builder.proofs.Halves.{within-kept}
 use Rattle.builder.proofs.halving.reduce_cubic.Statement.{statement}
 use Rattle.builder.proofs.halving.reduce_cubic.Tie as tie
@@ -27,7 +27,7 @@ add-y : tie.Need-add-y Inv-loop μ-loop
 add-y c = omega arith
 
 loop-less : tie.Need-loop-less Inv-loop μ-loop
-loop-less c = omega arith
+loop-less c = next-less (c .before .before .before .before .before .before .before .loop-test .taken)
 
 loop-again : tie.Need-loop-again Inv-loop μ-loop
 loop-again c =

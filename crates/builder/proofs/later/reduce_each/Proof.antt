@@ -8,7 +8,7 @@ use Rattle.settings.specs.declared.super_opts.Naturals.{Naturals}
 use mathlib.Core.List.{_++_}
 use Rattle.builder.specs.Canvas.{steps}
 use Rattle.builder.specs.Build.{halveLevel, halved}
-use Rattle.builder.proofs.Runs.{walked-whole}
+use Rattle.builder.proofs.Runs.{walked-whole, next-less}
 use Rattle.builder.proofs.Spreads.{Passed, passed-none, passed-next}
 use Rattle.builder.proofs.Prepared.{ready-kept}
 use Rattle.builder.proofs.later.reduce_each.Statement.{statement}
@@ -37,7 +37,7 @@ add-level : tie.Need-add-level Inv-loop μ-loop
 add-level c = omega arith
 
 loop-less : tie.Need-loop-less Inv-loop μ-loop
-loop-less c = omega arith
+loop-less c = next-less (c .before .before .before .before .before .before .before .before .before .before .loop-test .taken)
 
 loop-again : tie.Need-loop-again Inv-loop μ-loop
 loop-again c =

@@ -3,6 +3,7 @@ use mathlib.Core.Path.{_≡_, sym, ap, _∙_}
 use Prim.Native.Nat.{ℕ, _*_, _-_, _≤_}
 use native.Mathlib.Omega.{arith}
 use Rattle.builder.specs.Layout.{storedAt, heightAt, bytesAt, offsetAt}
+use Rattle.builder.proofs.Runs.{next-less}
 use Rattle.builder.proofs.Layouts.{Allowed, allowed, planes-le, bytes-le, offset-le, offset-first, offset-next}
 use Rattle.builder.proofs.levels.offset.Statement.{statement}
 use Rattle.builder.proofs.levels.offset.Tie as tie
@@ -48,7 +49,7 @@ add-above : tie.Need-add-above Inv-loop μ-loop
 add-above c = omega arith
 
 loop-less : tie.Need-loop-less Inv-loop μ-loop
-loop-less c = omega arith
+loop-less c = next-less (c .before .before .before .loop-test .taken)
 
 loop-again : tie.Need-loop-again Inv-loop μ-loop
 loop-again c =

@@ -6,7 +6,7 @@ use denote.Ref.{now}
 use Rattle.settings.specs.declared.super_opts.Naturals.{Naturals}
 use Rattle.builder.specs.Canvas.{steps}
 use Rattle.builder.specs.Margins.{clearLevel, cleared}
-use Rattle.builder.proofs.Runs.{Walked, walked-none, walked-next, walked-whole}
+use Rattle.builder.proofs.Runs.{Walked, walked-none, walked-next, walked-whole, next-less}
 use Rattle.builder.proofs.margins.clear_levels.Statement.{statement}
 use Rattle.builder.proofs.margins.clear_levels.Tie as tie
 
@@ -33,7 +33,7 @@ add-level : tie.Need-add-level Inv-loop μ-loop
 add-level c = omega arith
 
 loop-less : tie.Need-loop-less Inv-loop μ-loop
-loop-less c = omega arith
+loop-less c = next-less (c .before .before .before .before .loop-test .taken)
 
 loop-again : tie.Need-loop-again Inv-loop μ-loop
 loop-again c =

@@ -5,7 +5,7 @@ use native.Mathlib.Omega.{arith}
 use lib.ListN.{length, replicate}
 use Rattle.builder.specs.Canvas.{put}
 use Rattle.builder.specs.Margins.{clearRows}
-use Rattle.builder.proofs.Runs.{row-in, Walked, walked-none, walked-more, walked-whole}
+use Rattle.builder.proofs.Runs.{row-in, Walked, walked-none, walked-more, walked-whole, next-fits, next-less}
 use Rattle.builder.proofs.margins.clear_rows.Statement.{statement}
 use Rattle.builder.proofs.margins.clear_rows.Tie as tie
 
@@ -40,10 +40,10 @@ zero-run-requires : tie.Need-zero-run-requires Inv-loop μ-loop
 zero-run-requires c κs = (omega (arith, c .before .before .before .before .before .before .pre), omega (arith, inside (c .before .before .before)))
 
 add-y : tie.Need-add-y Inv-loop μ-loop
-add-y c = omega arith
+add-y c = next-fits (c .before .before .before .before .before .before .loop-test .taken) (c .before .before .before .before .before .struct-known .given .1 .1 .0)
 
 loop-less : tie.Need-loop-less Inv-loop μ-loop
-loop-less c = omega arith
+loop-less c = next-less (c .before .before .before .before .before .before .loop-test .taken)
 
 loop-again : tie.Need-loop-again Inv-loop μ-loop
 loop-again c =

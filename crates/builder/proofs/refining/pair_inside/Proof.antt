@@ -7,6 +7,7 @@ use lib.ListN.{getD}
 use denote.Ref.{now}
 use borrow.Author.Needs.{needs}
 use Rattle.filters.specs.Row.{meanOf}
+use Rattle.builder.proofs.Runs.{next-fits, next-less}
 use Rattle.builder.proofs.Refined.{Laid, laid-none, laid-more, laid-whole, laid-read, meanAt, pair-laid}
 use Rattle.builder.proofs.refining.pair_inside.Statement.{statement}
 use Rattle.builder.proofs.refining.pair_inside.Tie as tie
@@ -42,10 +43,10 @@ slice-write-frame : tie.Need-slice-write-frame Inv-loop μ-loop
 slice-write-frame c = omega arith
 
 add-i : tie.Need-add-i Inv-loop μ-loop
-add-i c = omega arith
+add-i c = next-fits (c .before .before .before .loop-test .taken) (c .before .before .before .before .before .before .fits .n)
 
 loop-less : tie.Need-loop-less Inv-loop μ-loop
-loop-less c = omega arith
+loop-less c = next-less (c .before .before .before .loop-test .taken)
 
 loop-again : tie.Need-loop-again Inv-loop μ-loop
 loop-again c =

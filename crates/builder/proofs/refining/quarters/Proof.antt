@@ -4,9 +4,10 @@ use mathlib.Core.List.{_++_}
 use Prim.Native.Nat.{_+_, _-_}
 use native.Mathlib.Omega.{arith}
 use lib.ListN.{length, getD}
+use mir.Facts.{fits-lit}
 use denote.Ref.{now}
 use Rattle.builder.specs.Refining.{pairOf, pairs, quarter}
-use Rattle.builder.proofs.Runs.{both-lengths, Walked, walked-none, walked-more, walked-whole}
+use Rattle.builder.proofs.Runs.{both-lengths, Walked, walked-none, walked-more, walked-whole, next-fits, next-less}
 use Rattle.builder.proofs.Refined.{planes-kept, table-row, table-walked}
 use Rattle.builder.proofs.refining.quarters.Statement.{statement}
 use Rattle.builder.proofs.refining.quarters.Tie as tie
@@ -35,10 +36,10 @@ quarter-requires c κs =
     (table-row (at-loop .loop .k) (at-loop-test .loop-test .taken), planes-kept (entered .pre .0) (v .1) (v .3), omega (arith, entered .pre .1, v .2))
 
 add-k : tie.Need-add-k Inv-loop μ-loop
-add-k c = omega arith
+add-k c = next-fits (c .before .before .before .before .before .before .before .before .before .before .before .loop-test .taken) (fits-lit tt)
 
 loop-less : tie.Need-loop-less Inv-loop μ-loop
-loop-less c = omega arith
+loop-less c = next-less (c .before .before .before .before .before .before .before .before .before .before .before .loop-test .taken)
 
 loop-again : tie.Need-loop-again Inv-loop μ-loop
 loop-again c =

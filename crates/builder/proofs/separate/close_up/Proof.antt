@@ -5,7 +5,7 @@ use lib.ListN.{length}
 use denote.Ref.{now}
 use Rattle.builder.specs.Canvas.{copyRun}
 use Rattle.builder.specs.Halving.{closeUp}
-use Rattle.builder.proofs.Runs.{walked-whole}
+use Rattle.builder.proofs.Runs.{walked-whole, next-fits, next-less}
 use Rattle.builder.proofs.Spreads.{spread-row, closed-row, Passed, passed-none, passed-next}
 use Rattle.builder.proofs.separate.close_up.Statement.{statement}
 use Rattle.builder.proofs.separate.close_up.Tie as tie
@@ -52,10 +52,10 @@ close-row-requires c κs =
     (omega (arith, c .before .before .before .before .before .before .before .before .before .before .pre .0, i .scratch), omega (arith, i .frame, i .spill, inside (c .before .before .before .before .before)))
 
 add-y : tie.Need-add-y Inv-loop μ-loop
-add-y c = omega arith
+add-y c = next-fits (c .before .before .before .before .before .before .before .before .before .before .before .before .loop-test .taken) (c .before .before .before .before .before .before .before .before .before .before .before .struct-known .given .1 .1 .0)
 
 loop-less : tie.Need-loop-less Inv-loop μ-loop
-loop-less c = omega arith
+loop-less c = next-less (c .before .before .before .before .before .before .before .before .before .before .before .before .loop-test .taken)
 
 loop-again : tie.Need-loop-again Inv-loop μ-loop
 loop-again c =

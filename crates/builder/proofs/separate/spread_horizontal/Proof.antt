@@ -5,7 +5,7 @@ use native.Mathlib.Omega.{arith}
 use lib.ListN.{length}
 use denote.Ref.{now}
 use Rattle.builder.specs.Halving.{halveRun, horizontalRows}
-use Rattle.builder.proofs.Runs.{walked-whole}
+use Rattle.builder.proofs.Runs.{walked-whole, next-fits, next-less}
 use Rattle.builder.proofs.Spreads.{spread-row, Passed, passed-none, passed-more}
 use Rattle.builder.proofs.separate.spread_horizontal.Statement.{statement}
 use Rattle.builder.proofs.separate.spread_horizontal.Tie as tie
@@ -44,10 +44,10 @@ spread-halve-row-requires c κs =
     (s .pre .0, omega (arith, i .frame, i .spill, s .pre .1, inside (c .before .before .before .before .before)), omega (arith, i .scratch, s .pre .1, s .pre .2), omega (arith, l .inv .1, s .pre .3))
 
 add-y : tie.Need-add-y Inv-loop μ-loop
-add-y c = omega arith
+add-y c = next-fits (c .before .before .before .before .before .before .before .before .before .before .before .before .before .before .loop-test .taken) (c .before .before .before .before .before .before .before .before .before .before .before .before .before .struct-known .given .1 .1 .0)
 
 loop-less : tie.Need-loop-less Inv-loop μ-loop
-loop-less c = omega arith
+loop-less c = next-less (c .before .before .before .before .before .before .before .before .before .before .before .before .before .before .loop-test .taken)
 
 loop-again : tie.Need-loop-again Inv-loop μ-loop
 loop-again c =

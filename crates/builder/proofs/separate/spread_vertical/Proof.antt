@@ -3,7 +3,7 @@ use Prim.Native.Nat.{_+_, _*_, _-_}
 use native.Mathlib.Omega.{arith}
 use Rattle.builder.specs.Canvas.{put}
 use Rattle.builder.specs.Halving.{wholeOf, verticalLine, verticalRows}
-use Rattle.builder.proofs.Runs.{walked-whole}
+use Rattle.builder.proofs.Runs.{walked-whole, next-less}
 use Rattle.builder.proofs.Spreads.{spread-same, Passed, passed-none, passed-more}
 use Rattle.builder.proofs.separate.spread_vertical.Statement.{statement}
 use Rattle.builder.proofs.separate.spread_vertical.Tie as tie
@@ -26,7 +26,7 @@ add-y : tie.Need-add-y Inv-loop μ-loop
 add-y c = omega arith
 
 loop-less : tie.Need-loop-less Inv-loop μ-loop
-loop-less c = omega arith
+loop-less c = next-less (c .before .before .before .before .before .before .before .before .before .before .loop-test .taken)
 
 loop-again : tie.Need-loop-again Inv-loop μ-loop
 loop-again c = let r = c .before .before .before .before .before .before .spread-vertical-row in passed-more (c .before .before .before .before .before .before .before .before .before .before .before .loop .inv) (c .before .before .before .before .before .before .before .before .before .before .loop-test .taken) (r .kept .1 .0) (r .kept .1 .1 .0) (r .kept .1 .1 .1 .0) (r .ensures)

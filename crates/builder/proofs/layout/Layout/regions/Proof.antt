@@ -14,6 +14,7 @@ use Rattle.builder.specs.declared.layout.Region.{Region}
 use Rattle.builder.specs.Layout.{levelsOf, regionOr, noRegion}
 use Rattle.builder.specs.Numbers.{layoutNo}
 use Rattle.builder.specs.Answers.{Columns, columns}
+use Rattle.builder.proofs.Runs.{next-less}
 use Rattle.builder.proofs.layout.Layout.regions.Statement.{statement}
 use Rattle.builder.proofs.layout.Layout.regions.Tie as tie
 
@@ -57,7 +58,7 @@ add-i : tie.Need-add-i Inv-loop μ-loop
 add-i c = omega arith
 
 loop-less : tie.Need-loop-less Inv-loop μ-loop
-loop-less c = omega arith
+loop-less c = next-less (c .before .loop-test .taken)
 
 loop-again : tie.Need-loop-again Inv-loop μ-loop
 loop-again c =

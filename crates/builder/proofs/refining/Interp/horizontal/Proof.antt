@@ -6,7 +6,7 @@ use lib.ListN.{length}
 use Rattle.filters.specs.Refine.{halfHorizontal}
 use Rattle.builder.specs.Canvas.{fetch, put}
 use Rattle.builder.specs.Refining.{horizontalPlane}
-use Rattle.builder.proofs.Runs.{row-in, Walked, walked-none, walked-more, walked-whole}
+use Rattle.builder.proofs.Runs.{row-in, Walked, walked-none, walked-more, walked-whole, next-fits, next-less}
 use Rattle.builder.proofs.refining.Interp.horizontal.Statement.{statement}
 use Rattle.builder.proofs.refining.Interp.horizontal.Tie as tie
 
@@ -50,10 +50,10 @@ horizontal-row-requires c κs =
     (omega (arith, r, p .source, p .fits, e), omega (arith, r, p .target, p .fits, e), omega (arith, p .room, at-loop .loop .inv .1))
 
 add-y : tie.Need-add-y Inv-loop μ-loop
-add-y c = omega arith
+add-y c = next-fits (c .before .before .before .before .before .before .before .before .loop-test .taken) (c .before .before .before .before .before .before .before .struct-known .given .1 .1 .0)
 
 loop-less : tie.Need-loop-less Inv-loop μ-loop
-loop-less c = omega arith
+loop-less c = next-less (c .before .before .before .before .before .before .before .before .loop-test .taken)
 
 loop-again : tie.Need-loop-again Inv-loop μ-loop
 loop-again c =

@@ -7,7 +7,7 @@ use lib.ListN.{length}
 use denote.Ref.{now}
 use Rattle.builder.specs.Canvas.{steps}
 use Rattle.builder.specs.Refining.{pairRun, pairPlane}
-use Rattle.builder.proofs.Runs.{both-lengths, row-in, Walked, walked-none, walked-more, walked-whole}
+use Rattle.builder.proofs.Runs.{both-lengths, row-in, Walked, walked-none, walked-more, walked-whole, next-fits, next-less}
 use Rattle.builder.proofs.refining.Interp.pair.Statement.{statement}
 use Rattle.builder.proofs.refining.Interp.pair.Tie as tie
 
@@ -74,10 +74,10 @@ pair-row-requires c κs =
     }
 
 add-y : tie.Need-add-y Inv-loop μ-loop
-add-y c = omega arith
+add-y c = next-fits (c .before .before .before .before .before .before .before .before .before .before .before .loop-test .taken) (c .before .before .before .before .before .before .before .before .before .before .struct-known .given .1 .1 .0)
 
 loop-less : tie.Need-loop-less Inv-loop μ-loop
-loop-less c = omega arith
+loop-less c = next-less (c .before .before .before .before .before .before .before .before .before .before .before .loop-test .taken)
 
 loop-again : tie.Need-loop-again Inv-loop μ-loop
 loop-again c =

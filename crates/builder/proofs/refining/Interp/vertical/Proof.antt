@@ -5,7 +5,7 @@ use native.Mathlib.Omega.{arith}
 use lib.ListN.{length}
 use Rattle.builder.specs.Canvas.{put}
 use Rattle.builder.specs.Refining.{verticalRun, verticalPlane}
-use Rattle.builder.proofs.Runs.{Walked, walked-none, walked-more, walked-whole}
+use Rattle.builder.proofs.Runs.{Walked, walked-none, walked-more, walked-whole, next-less}
 use Rattle.builder.proofs.refining.Interp.vertical.Statement.{statement}
 use Rattle.builder.proofs.refining.Interp.vertical.Tie as tie
 
@@ -31,7 +31,7 @@ add-y : tie.Need-add-y Inv-loop μ-loop
 add-y c = omega arith
 
 loop-less : tie.Need-loop-less Inv-loop μ-loop
-loop-less c = omega arith
+loop-less c = next-less (c .before .before .before .before .before .before .before .loop-test .taken)
 
 loop-again : tie.Need-loop-again Inv-loop μ-loop
 loop-again c =
