@@ -40,6 +40,10 @@ wider m le p = record { text = p .text; room = omega (arith, p .room) }
 pub int-said : {l r : Line} {k : ℕ} (z : ℤ) → SFits w32 z → Appended l r (spaced (decimal (toNat (toZ w32 (ofZ w32 z))))) k → Appended l r (spaced (decimal (toNat z))) k
 int-said z fit = said (ap (λ (y : ℤ). spaced (decimal (toNat y))) (same z fit))
 
+-- and so handed on, it is still printed in five digits
+pub int-printed : (z : ℤ) → SFits w32 z → toNat z < mostPrinted → toNat (toZ w32 (ofZ w32 z)) < mostPrinted
+int-printed z fit below = subst (λ (y : ℤ). toNat y < mostPrinted) (sym (same z fit)) below
+
 -- ---- decimal digits by their places
 few : (k n : ℕ) → n < 10 → digits (suc k) n ≡ (48 + n) ∷ []
 unfolding digits
