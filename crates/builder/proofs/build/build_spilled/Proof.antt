@@ -4,6 +4,7 @@ use Prim.Native.Nat.{ℕ}
 use native.Mathlib.Omega.{arith}
 use lib.ListN.{length, take, replicate}
 use lib.Seq.{length-take-le}
+use borrow.Table.Elements.{same-len}
 use denote.Ref.{now}
 use borrow.Author.Needs.{needs}
 use Rattle.builder.proofs.Whole.{ready-lent, frame-left}
@@ -36,7 +37,12 @@ same-length : tie.Need-same-length
 same-length c = c .before .before .before .before .before .before .build-levels .kept .0
 
 same-length-2 : tie.Need-same-length-2
-same-length-2 c = search needs
+same-length-2 c =
+    let at-build-levels = c .before .before .before .before .before .before in
+    let at-zero-row = at-build-levels .before .before .before .before .before in
+    let at-spill-need = at-zero-row .before .before .before in
+    let a = at-spill-need .before .before .before .before .before .args in
+    same-len (at-spill-need .spill-need .result) (now (a .spill)) (at-build-levels .build-levels .last .1 .0) (at-build-levels .build-levels .kept .1 .0 ∙ at-zero-row .zero-row .kept .0)
 
 same-length-3 : tie.Need-same-length-3
 same-length-3 c = c .before .before .before .before .before .before .build-levels .kept .1 .1 .0

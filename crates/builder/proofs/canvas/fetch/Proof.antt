@@ -1,9 +1,12 @@
 -- `fetch` meets its contract. Assumes nothing.
+use mathlib.Core.List.{_++_}
 use mathlib.Core.Path.{sym, _∙_}
 use Prim.Native.Nat.{_-_}
 use native.Mathlib.Omega.{arith}
 use lib.ListN.{length, drop, length-take, length-drop}
 use lib.Seq.{length-take-le}
+use borrow.Table.Elements.{same-len}
+use borrow.Rule.Slice.PartMut.{same-len-mid}
 use denote.Ref.{now}
 use borrow.Author.Needs.{needs}
 use Rattle.builder.proofs.Runs.{fetch-left, fetch-right, copy-whole, fetch-cut}
@@ -74,7 +77,14 @@ read-requires-2 : tie.Need-read-requires-2
 read-requires-2 c κs = search needs
 
 same-length-3 : tie.Need-same-length-3
-same-length-3 c = search needs
+same-length-3 c =
+    let at-read2 = c .before .before in
+    let at-copy-row2 = at-read2 .before .before .before .before in
+    let a = at-copy-row2 .before .before .before .before .before .before .before .before .args in
+    let k = length (now (a .frame)) - a .start in
+    let l = at-copy-row2 .copy-row2 .last .0 in
+    let out = l ++ drop k (now (a .out)) in
+    same-len-mid k (length out - k) out (at-read2 .read2 .last .0) (at-read2 .read2 .kept .0) ∙ same-len k (now (a .out)) l (at-copy-row2 .copy-row2 .kept .0)
 
 returns-3 : tie.Need-returns-3
 returns-3 c =

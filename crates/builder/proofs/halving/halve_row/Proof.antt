@@ -1,4 +1,6 @@
 -- `halve_row` meets its contract. Assumes nothing.
+use Prim.Native.Nat.{_+_, _-_}
+use borrow.Rule.Slice.PartMut.{same-len-mid}
 use denote.Ref.{now}
 use Rattle.builder.proofs.Halves.{halve-lent}
 use borrow.Author.Needs.{needs}
@@ -30,7 +32,10 @@ reduce-row-requires : tie.Need-reduce-row-requires
 reduce-row-requires c κs = search needs
 
 same-length : tie.Need-same-length
-same-length c = search needs
+same-length c =
+    let at-reduce-row = c .before .before in
+    let a = at-reduce-row .before .before .before .before .before .before .before .before .before .before .before .args in
+    same-len-mid (a .at) (a .at + a .w - a .at) (now (a .frame)) (at-reduce-row .reduce-row .last .1 .0) (at-reduce-row .reduce-row .kept .1 .0)
 
 same-length-2 : tie.Need-same-length-2
 same-length-2 c = c .before .before .before .before .before .before .before .deinterleave .kept .0

@@ -13,10 +13,10 @@ use Rattle.builder.proofs.refining.pair_apart.Statement.{statement}
 use Rattle.builder.proofs.refining.pair_apart.Tie as tie
 
 fetch-into-requires : tie.Need-fetch-into-requires
-fetch-into-requires c κs = search needs
+fetch-into-requires c κs = omega (arith, c .before .before .before .before .before .before .pre .room)
 
 fetch-into-requires-2 : tie.Need-fetch-into-requires-2
-fetch-into-requires-2 c κs = search needs
+fetch-into-requires-2 c κs = omega (arith, c .before .before .before .before .before .before .before .before .before .before .before .before .pre .room, c .before .before .before .before .before .fetch-into .kept .0)
 
 mul-pair-inside : tie.Need-mul-pair-inside
 mul-pair-inside c = search needs
@@ -28,10 +28,10 @@ mul-span : tie.Need-mul-span
 mul-span c = search needs
 
 span-requires : tie.Need-span-requires
-span-requires c κs = search needs
+span-requires c κs = omega (arith, c .before .before .before .before .before .before .before .before .before .before .before .before .before .before .before .before .before .before .before .before .before .before .pre .room, c .before .before .before .before .before .pair-inside .kept .0, c .before .before .before .before .before .before .before .before .before .fetch-into2 .kept .0, c .before .before .before .before .before .before .before .before .before .before .before .before .before .before .before .fetch-into .kept .0)
 
 store-requires : tie.Need-store-requires
-store-requires c κs = search needs
+store-requires c κs = omega (arith, c .before .before .before .before .before .before .before .before .before .before .before .before .before .before .before .before .before .before .before .before .before .before .before .pre .target, c .span .ensures .1)
 
 same-length : tie.Need-same-length
 same-length c = c .before .before .before .before .store .kept .0

@@ -3,6 +3,7 @@ use mathlib.Core.Path.{sym, ap, _∙_}
 use mathlib.Core.List.{_++_}
 use native.Mathlib.Omega.{arith}
 use lib.Seq.{length-take-le}
+use borrow.Table.Elements.{same-len}
 use denote.Ref.{now}
 use Rattle.builder.specs.Canvas.{fetch, put, copyRun}
 use borrow.Author.Needs.{needs}
@@ -30,7 +31,10 @@ same-length-2 : tie.Need-same-length-2
 same-length-2 c = c .before .before .before .before .before .before .store .kept .1 .0
 
 same-length-3 : tie.Need-same-length-3
-same-length-3 c = search needs
+same-length-3 c =
+    let at-fetch = c .before .before .before .before .before .before .before .before .before .before .before .before in
+    let a = at-fetch .before .before .before .before .before .before .before .before .args in
+    same-len (a .n) (now (a .scratch)) (at-fetch .fetch .last .0) (at-fetch .fetch .kept .0)
 
 returns : tie.Need-returns
 unfolding copyRun

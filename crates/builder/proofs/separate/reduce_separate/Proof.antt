@@ -1,19 +1,29 @@
 -- `reduce_separate` meets its contract. Assumes nothing.
 use mathlib.Core.Path.{ap, _∙_}
 use Prim.Native.Nat.{_*_}
+use native.Mathlib.Omega.{arith}
 use Rattle.builder.specs.Halving.{horizontalRows, closeUp, fromSource}
-use borrow.Author.Needs.{needs}
 use Rattle.builder.proofs.separate.reduce_separate.Statement.{statement}
 use Rattle.builder.proofs.separate.reduce_separate.Tie as tie
 
 spread-vertical-requires : tie.Need-spread-vertical-requires
-spread-vertical-requires c κs = search needs
+spread-vertical-requires c κs = c .before .before .before .before .before .before .before .pre
 
 spread-halves-requires : tie.Need-spread-halves-requires
-spread-halves-requires c κs = search needs
+spread-halves-requires c κs =
+    let at-spread-vertical = c .before .before .before .before .before .before .before .before .before in
+    let p = at-spread-vertical .before .before .before .before .before .before .before .before .pre in
+    let k = at-spread-vertical .spread-vertical .kept .1 in
+    (p .some, p .fits, omega (arith, p .room, k .1 .1 .0), p .narrow, omega (arith, p .beyond, k .0, k .1 .0))
 
 close-up-requires : tie.Need-close-up-requires
-close-up-requires c κs = search needs
+close-up-requires c κs =
+    let at-spread-halves = c .before .before .before .before .before .before .before .before .before in
+    let at-spread-vertical = at-spread-halves .before .before .before .before .before .before .before .before .before .before in
+    let p = at-spread-vertical .before .before .before .before .before .before .before .before .pre in
+    let j = at-spread-halves .spread-halves .kept .1 in
+    let k = at-spread-vertical .spread-vertical .kept .1 in
+    (omega (arith, p .room, j .1 .1 .0, k .1 .1 .0), omega (arith, p .beyond, j .0, j .1 .0, k .0, k .1 .0))
 
 same-length : tie.Need-same-length
 same-length c = c .before .before .before .before .before .before .close-up .kept .0 ∙ c .before .before .before .before .before .before .before .before .before .before .before .before .before .before .before .before .spread-halves .kept .1 .0 ∙ c .before .before .before .before .before .before .before .before .before .before .before .before .before .before .before .before .before .before .before .before .before .before .before .before .before .before .spread-vertical .kept .1 .0

@@ -3,6 +3,7 @@ use mathlib.Core.Path.{sym, ap, _∙_}
 use mathlib.Core.List.{_++_}
 use Prim.Native.Nat.{ℕ, _+_, _*_}
 use native.Mathlib.Omega.{arith}
+use borrow.Table.Elements.{same-len}
 use denote.Ref.{now}
 use Rattle.builder.specs.Canvas.{put}
 use Rattle.builder.specs.Halving.{wholeOf, verticalLine}
@@ -46,7 +47,10 @@ same-length-2 : tie.Need-same-length-2
 same-length-2 c = c .before .before .before .before .before .before .store .kept .1 .0
 
 same-length-3 : tie.Need-same-length-3
-same-length-3 c = search needs
+same-length-3 c =
+    let at-vertical-line = c .before .before .before .before .before .before .before .before .before .before .before .before .before in
+    let a = at-vertical-line .before .before .before .before .before .before .before .before .args in
+    same-len (2 * a .target .width) (now (a .scratch)) (at-vertical-line .vertical-line .last .1 .0) (at-vertical-line .vertical-line .kept .1 .0)
 
 returns : tie.Need-returns
 returns c =

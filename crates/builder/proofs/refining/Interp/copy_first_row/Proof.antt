@@ -4,6 +4,7 @@ use Prim.Native.Nat.{ℕ, _-_}
 use native.Mathlib.Omega.{arith}
 use lib.ListN.{take}
 use lib.Seq.{take-all, length-take-le}
+use borrow.Table.Elements.{same-len}
 use denote.Ref.{now}
 use borrow.Author.Needs.{needs}
 use Rattle.builder.specs.Canvas.{fetch, put, copyRun}
@@ -34,7 +35,10 @@ same-length : tie.Need-same-length
 same-length c = c .before .before .before .before .put .kept .0
 
 same-length-2 : tie.Need-same-length-2
-same-length-2 c = search needs
+same-length-2 c =
+    let at-copy-row = c .before .before .before .before .before .before .before .before .before in
+    let a = at-copy-row .before .before .before .before .before .before .before .args in
+    same-len (a .self .width) (now (a .scratch)) (at-copy-row .copy-row .last .0) (at-copy-row .copy-row .kept .0)
 
 returns : tie.Need-returns
 unfolding copyRun

@@ -3,6 +3,7 @@ use mathlib.Core.Path.{_∙_}
 use mathlib.Core.List.{_++_}
 use Prim.Native.Nat.{_+_, _-_}
 use native.Mathlib.Omega.{arith}
+use native.Mathlib.Nat.{le-refl}
 use denote.Ref.{now}
 use borrow.Author.Needs.{needs}
 use Rattle.builder.proofs.Refined.{planes-kept, planes-fewer, pair-fits, mean-stages}
@@ -30,7 +31,14 @@ add-pair-under-row : tie.Need-add-pair-under-row
 add-pair-under-row c = search needs
 
 pair-under-row-requires-2 : tie.Need-pair-under-row-requires-2
-pair-under-row-requires-2 c κs = search needs
+pair-under-row-requires-2 c κs =
+    let at-pair-under-row = c .before .before .before .before .before .before .before .before .before .before in
+    let at-pair = at-pair-under-row .before .before .before .before .before .before .before .before .before .before in
+    let entered = at-pair .before .before .before .before .before .before .before .before in
+    let h = entered .pre .0 in
+    let j = at-pair-under-row .pair-under-row .kept .1 in
+    let k = at-pair .pair .kept .1 in
+    (record { some = omega (arith, h .some); most = h .most; near = le-refl _; first = le-refl _ }, planes-kept (entered .pre .1) (j .0 ∙ k .0) (j .1 .1 .0 ∙ k .1 .1 .0), omega (arith, entered .pre .2, k .1 .0, j .1 .0))
 
 same-length : tie.Need-same-length
 same-length c = c .before .before .before .before .before .before .pair-under-row2 .kept .1 .0 ∙ c .before .before .before .before .before .before .before .before .before .before .before .before .before .before .before .before .before .pair-under-row .kept .1 .0 ∙ c .before .before .before .before .before .before .before .before .before .before .before .before .before .before .before .before .before .before .before .before .before .before .before .before .before .before .before .pair .kept .1 .0

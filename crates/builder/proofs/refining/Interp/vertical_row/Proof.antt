@@ -3,6 +3,7 @@ use mathlib.Core.Path.{sym, ap, _∙_}
 use Prim.Native.Nat.{_+_, _*_, _-_}
 use native.Mathlib.Omega.{arith}
 use lib.Seq.{length-take-le}
+use borrow.Table.Elements.{same-len}
 use denote.Ref.{now}
 use borrow.Author.Needs.{needs}
 use Rattle.builder.specs.Canvas.{put}
@@ -43,7 +44,10 @@ same-length : tie.Need-same-length
 same-length c = c .before .before .before .before .put .kept .0
 
 same-length-2 : tie.Need-same-length-2
-same-length-2 c = search needs
+same-length-2 c =
+    let at-vertical-line = c .before .before .before .before .before .before .before .before .before .before in
+    let a = at-vertical-line .before .before .before .before .before .before .args in
+    same-len (a .self .width) (now (a .scratch)) (at-vertical-line .vertical-line .last .1 .1 .0) (at-vertical-line .vertical-line .kept .1 .1 .0)
 
 returns : tie.Need-returns
 returns c =
