@@ -88,6 +88,13 @@ row-within {p = p} {t = t} {y = y} w lt = omega (arith, w .target, row-in y (t .
 pub source-within : {len scratch base p : ℕ} {t : Region} {n : ℕ} → Within len scratch base p t → n ≡ 2 * t .width → Source len base p n (t .height)
 source-within {p = p} {t = t} w e = record { rows = omega (arith, w .source, w .target, w .fits, row-in 0 (t .height) p (let some : 0 < t .height = omega (arith, w .high) in some)) }
 
+-- and before it is halved, in the frame and in scratch
+pub halves-within : {len scratch base p : ℕ} {t : Region} {y : ℕ} → Within len scratch base p t → y < t .height → t .offset + y * p + 2 * t .width ≤ len
+halves-within w lt = omega (arith, row-within w lt, w .fits)
+
+pub line-within : {len scratch base p : ℕ} {t : Region} → Within len scratch base p t → 2 * t .width + 2 ≤ scratch
+line-within w = omega (arith, w .fits, w .room)
+
 -- the slices keep their lengths
 pub within-kept : {len scratch len' scratch' base p : ℕ} {t : Region} → len' ≡ len → scratch' ≡ scratch → Within len scratch base p t → Within len' scratch' base p t
 within-kept e f w =

@@ -26,6 +26,18 @@ closed-row t y h p fits lt = omega (arith, row-in y h p lt)
 pub spread-at : {n sp len spill scratch p y : ℕ} {t : Region} → Spread n sp len spill scratch p t → y < t .height → t .offset + y * (2 * p) + 2 * p ≤ len + spill
 spread-at {p = p} {y = y} {t = t} s lt = spread-row (t .offset) y (t .height) p (s .beyond) lt
 
+-- the slices keep their lengths
+pub spread-kept : {n sp len spill scratch len' spill' scratch' p : ℕ} {t : Region} → len' ≡ len → spill' ≡ spill → scratch' ≡ scratch → Spread n sp len spill scratch p t → Spread n sp len' spill' scratch' p t
+spread-kept e f g s =
+    record {
+      some = s .some;
+      fits = s .fits;
+      narrow = s .narrow;
+      source = s .source;
+      beyond = omega (arith, s .beyond);
+      room = omega (arith, s .room);
+    }
+
 -- scratch X holds a row before it is halved
 pub spread-line : {n sp len spill p : ℕ} {t : Region} (X : List ℕ) → Spread n sp len spill (length X) p t → length (take (2 * t .width) X) ≡ 2 * t .width
 spread-line {t = t} X s = length-take-le (2 * t .width) X (omega (arith, s .fits, s .room))

@@ -1,15 +1,17 @@
 -- `fused_row` meets its contract. Assumes nothing.
-use mathlib.Core.Path.{_≡_, ap, _∙_}
+use mathlib.Core.Path.{_≡_, ap, _∙_, refl}
 use mathlib.Core.List.{List}
 use Prim.Native.Nat.{ℕ, _+_, _*_, _-_}
 use native.Mathlib.Omega.{arith}
 use lib.ListN.{replicate}
+use native.Mathlib.Nat.{le-refl, add-le-add}
 use denote.Ref.{now}
 use Rattle.filters.specs.declared.halving.ReduceFilter.the-variants.{Cubic}
 use Rattle.builder.specs.Canvas.{put}
 use Rattle.builder.specs.Halving.{wholeOf, verticalLine, halveRun}
 use Rattle.builder.proofs.Lines.{line-length}
-use Rattle.builder.proofs.Halves.{row-within, fused-run}
+use Rattle.builder.proofs.Halves.{row-within, fused-run, within-kept, halves-within, line-within}
+use Rattle.builder.proofs.Prepared.{whole-or}
 use borrow.Author.Needs.{needs}
 use Rattle.builder.proofs.halving.fused_row.Statement.{statement}
 use Rattle.builder.proofs.halving.fused_row.Tie as tie
@@ -18,25 +20,35 @@ vertical-row-requires : tie.Need-vertical-row-requires
 vertical-row-requires c κs = search needs
 
 mul-at : tie.Need-mul-at
-mul-at c = omega (arith, row-within (c .before .before .before .before .before .before .before .before .before .pre .0) (c .before .before .before .before .before .before .before .before .before .pre .1))
+mul-at c = let entered = c .before .before .before .before .before .before .before .before .before in omega (arith, row-within (entered .pre .0) (entered .pre .1))
 
 add-at : tie.Need-add-at
-add-at c = omega (arith, row-within (c .before .before .before .before .before .before .before .before .before .before .pre .0) (c .before .before .before .before .before .before .before .before .before .before .pre .1))
+add-at c = let entered = c .before .before .before .before .before .before .before .before .before .before in omega (arith, row-within (entered .pre .0) (entered .pre .1))
 
 halve-row-requires : tie.Need-halve-row-requires
-halve-row-requires c κs = (c .before .before .before .before .before .before .before .before .before .before .before .before .pre .0 .some, omega (arith, row-within (c .before .before .before .before .before .before .before .before .before .before .before .before .pre .0) (c .before .before .before .before .before .before .before .before .before .before .before .before .pre .1), c .before .before .before .before .before .before .before .before .before .before .before .before .pre .0 .fits, c .before .before .before .before .before .before .before .vertical-row .kept .1 .0, c .before .before .before .before .before .before .before .vertical-row .kept .1 .1 .0), omega (arith, c .before .before .before .before .before .before .before .before .before .before .before .before .pre .0 .fits, c .before .before .before .before .before .before .before .before .before .before .before .before .pre .0 .room, c .before .before .before .before .before .before .before .vertical-row .kept .1 .0, c .before .before .before .before .before .before .before .vertical-row .kept .1 .1 .0))
+halve-row-requires c κs =
+    let at-vertical-row = c .before .before .before .before .before .before .before in
+    let entered = at-vertical-row .before .before .before .before .before in
+    let k = at-vertical-row .vertical-row .kept .1 in
+    let w = within-kept (k .0) (k .1 .0) (entered .pre .0) in
+    (w .some, halves-within w (entered .pre .1), line-within w)
 
 mul-zero-run : tie.Need-mul-zero-run
 mul-zero-run c = search needs
 
 add-zero-run : tie.Need-add-zero-run
-add-zero-run c = omega (arith, row-within (c .before .before .before .before .before .before .before .before .before .before .before .before .before .before .before .before .before .before .before .pre .0) (c .before .before .before .before .before .before .before .before .before .before .before .before .before .before .before .before .before .before .before .pre .1), c .before .before .before .before .before .before .before .before .before .before .before .before .before .before .before .before .before .before .before .pre .0 .fits)
+add-zero-run c = let entered = c .before .before .before .before .before .before .before .before .before .before .before .before .before .before .before .before .before .before .before in omega (arith, halves-within (entered .pre .0) (entered .pre .1))
 
 add-zero-run-2 : tie.Need-add-zero-run-2
-add-zero-run-2 c = omega (arith, row-within (c .before .before .before .before .before .before .before .before .before .before .before .before .before .before .before .before .before .before .before .pre .0) (c .before .before .before .before .before .before .before .before .before .before .before .before .before .before .before .before .before .before .before .pre .1))
+add-zero-run-2 c = let entered = c .before .before .before .before .before .before .before .before .before .before .before .before .before .before .before .before .before .before .before in omega (arith, row-within (entered .pre .0) (entered .pre .1))
 
 zero-run-requires : tie.Need-zero-run-requires
-zero-run-requires c κs = (omega (arith, c .before .before .before .before .before .before .before .before .before .before .before .before .before .before .before .before .before .before .before .pre .0 .fits), omega (arith, row-within (c .before .before .before .before .before .before .before .before .before .before .before .before .before .before .before .before .before .before .before .pre .0) (c .before .before .before .before .before .before .before .before .before .before .before .before .before .before .before .before .before .before .before .pre .1), c .before .before .before .before .before .before .before .before .before .before .before .before .before .before .vertical-row .kept .1 .0, c .before .before .before .before .before .before .before .before .before .before .before .before .before .before .vertical-row .kept .1 .1 .0, c .before .before .before .before .before .before .halve-row .kept .1 .0))
+zero-run-requires c κs =
+    let at-halve-row = c .before .before .before .before .before .before in
+    let at-vertical-row = at-halve-row .before .before .before .before .before .before .before .before in
+    let entered = at-vertical-row .before .before .before .before .before in
+    let w = within-kept (at-halve-row .halve-row .kept .1 .0 ∙ at-vertical-row .vertical-row .kept .1 .0) refl (entered .pre .0) in
+    (add-le-add (le-refl _) (w .fits), row-within w (entered .pre .1))
 
 same-length : tie.Need-same-length
 same-length c =
@@ -64,7 +76,7 @@ returns c =
     c .before .before .zero-run .ensures
     ∙ ap (λ (x : List ℕ). put x (at + 2 * w) (replicate (at + p - (at + 2 * w)) 0)) (c .before .before .before .before .before .before .before .before .before .halve-row .ensures ∙ ap (halveRun Cubic w at) (c .before .before .before .before .before .before .before .before .before .before .before .before .before .before .before .before .before .vertical-row .ensures))
     ∙ ap (λ (k : ℕ). put (halveRun Cubic w at (put F at v)) (at + 2 * w) (replicate k 0)) n
-    ∙ fused-run p w at F v (line-length Cubic (wholeOf Cubic (2 * w)) (2 * w) (t .height) F (s .args .base) p (s .args .y) (omega arith)) (s .pre .0 .fits) (row-within (s .pre .0) (s .pre .1))
+    ∙ fused-run p w at F v (line-length Cubic (wholeOf Cubic (2 * w)) (2 * w) (t .height) F (s .args .base) p (s .args .y) (whole-or Cubic (2 * w) .0)) (s .pre .0 .fits) (row-within (s .pre .0) (s .pre .1))
 
 pub fused-row-spec : {M : Type 1} → statement M
 fused-row-spec =

@@ -1,8 +1,10 @@
 -- `quarter` meets its contract. Assumes nothing.
 use mathlib.Core.Path.{refl, _∙_}
 use mathlib.Core.List.{_++_}
-use Prim.Native.Nat.{_+_, _-_}
+use Prim.Native.Nat.{_+_, _-_, _*_, _≤_}
 use native.Mathlib.Omega.{arith}
+use native.Mathlib.Nat.{le-refl}
+use lib.ListN.{length}
 use denote.Ref.{now}
 use borrow.Author.Needs.{needs}
 use Rattle.builder.specs.Refining.{planeAt}
@@ -22,26 +24,23 @@ plane-requires c κs = search needs
 plane-requires-2 : tie.Need-plane-requires-2
 plane-requires-2 c κs = search needs
 
-add-left : tie.Need-add-left
-add-left c =
-    let at-plane2 = c .before in
-    let entered = at-plane2 .before .before .before .before .before .before .before .before .before in
+-- what is read of the left plane ends in the frame
+left-inside : (c : tie.After-plane2) →
+    let a = c .before .before .before .before .before .before .before .before .before .args in
+    c .plane2 .result + a .q .across + a .q .below * a .i .pitch + (a .i .height - a .q .below) * a .i .pitch ≤ length (now (a .frame))
+left-inside c =
+    let entered = c .before .before .before .before .before .before .before .before .before in
     let a = entered .args in
-    omega (arith, quarter-fits 16 (planeAt (a .i) (a .q .target)) _ (planeAt (a .i) (a .q .right)) (entered .pre .1) (entered .pre .0) (omega arith) refl (at-plane2 .plane2 .ensures) refl .left)
+    quarter-fits 16 (planeAt (a .i) (a .q .target)) _ (planeAt (a .i) (a .q .right)) (entered .pre .1) (entered .pre .0) (le-refl 16) refl (c .plane2 .ensures) refl .left
+
+add-left : tie.Need-add-left
+add-left c = omega (arith, left-inside (c .before))
 
 mul-left : tie.Need-mul-left
-mul-left c =
-    let at-plane2 = c .before .before .before in
-    let entered = at-plane2 .before .before .before .before .before .before .before .before .before in
-    let a = entered .args in
-    omega (arith, quarter-fits 16 (planeAt (a .i) (a .q .target)) _ (planeAt (a .i) (a .q .right)) (entered .pre .1) (entered .pre .0) (omega arith) refl (at-plane2 .plane2 .ensures) refl .left)
+mul-left c = omega (arith, left-inside (c .before .before .before))
 
 add-left-2 : tie.Need-add-left-2
-add-left-2 c =
-    let at-plane2 = c .before .before .before in
-    let entered = at-plane2 .before .before .before .before .before .before .before .before .before in
-    let a = entered .args in
-    omega (arith, quarter-fits 16 (planeAt (a .i) (a .q .target)) _ (planeAt (a .i) (a .q .right)) (entered .pre .1) (entered .pre .0) (omega arith) refl (at-plane2 .plane2 .ensures) refl .left)
+add-left-2 c = omega (arith, left-inside (c .before .before .before))
 
 plane-requires-3 : tie.Need-plane-requires-3
 plane-requires-3 c κs = search needs

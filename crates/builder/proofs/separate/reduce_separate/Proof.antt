@@ -2,6 +2,7 @@
 use mathlib.Core.Path.{ap, _∙_}
 use Prim.Native.Nat.{_*_}
 use native.Mathlib.Omega.{arith}
+use Rattle.builder.proofs.Spreads.{spread-kept}
 use Rattle.builder.specs.Halving.{horizontalRows, closeUp, fromSource}
 use Rattle.builder.proofs.separate.reduce_separate.Statement.{statement}
 use Rattle.builder.proofs.separate.reduce_separate.Tie as tie
@@ -12,18 +13,18 @@ spread-vertical-requires c κs = c .before .before .before .before .before .befo
 spread-halves-requires : tie.Need-spread-halves-requires
 spread-halves-requires c κs =
     let at-spread-vertical = c .before .before .before .before .before .before .before .before .before in
-    let p = at-spread-vertical .before .before .before .before .before .before .before .before .pre in
     let k = at-spread-vertical .spread-vertical .kept .1 in
-    (p .some, p .fits, omega (arith, p .room, k .1 .1 .0), p .narrow, omega (arith, p .beyond, k .0, k .1 .0))
+    let s = spread-kept (k .0) (k .1 .0) (k .1 .1 .0) (at-spread-vertical .before .before .before .before .before .before .before .before .pre) in
+    (s .some, s .fits, s .room, s .narrow, s .beyond)
 
 close-up-requires : tie.Need-close-up-requires
 close-up-requires c κs =
     let at-spread-halves = c .before .before .before .before .before .before .before .before .before in
     let at-spread-vertical = at-spread-halves .before .before .before .before .before .before .before .before .before .before in
-    let p = at-spread-vertical .before .before .before .before .before .before .before .before .pre in
     let j = at-spread-halves .spread-halves .kept .1 in
     let k = at-spread-vertical .spread-vertical .kept .1 in
-    (omega (arith, p .room, j .1 .1 .0, k .1 .1 .0), omega (arith, p .beyond, j .0, j .1 .0, k .0, k .1 .0))
+    let s = spread-kept (j .0 ∙ k .0) (j .1 .0 ∙ k .1 .0) (j .1 .1 .0 ∙ k .1 .1 .0) (at-spread-vertical .before .before .before .before .before .before .before .before .pre) in
+    (omega (arith, s .room), s .beyond)
 
 same-length : tie.Need-same-length
 same-length c = c .before .before .before .before .before .before .close-up .kept .0 ∙ c .before .before .before .before .before .before .before .before .before .before .before .before .before .before .before .before .spread-halves .kept .1 .0 ∙ c .before .before .before .before .before .before .before .before .before .before .before .before .before .before .before .before .before .before .before .before .before .before .before .before .before .before .spread-vertical .kept .1 .0
