@@ -95,6 +95,9 @@ halves-within w lt = omega (arith, row-within w lt, w .fits)
 pub line-within : {len scratch base p : ℕ} {t : Region} → Within len scratch base p t → 2 * t .width + 2 ≤ scratch
 line-within w = omega (arith, w .fits, w .room)
 
+pub line-taken : {len base p : ℕ} {t : Region} (X : List ℕ) → Within len (length X) base p t → length (take (2 * t .width) X) ≡ 2 * t .width
+line-taken {t = t} X w = length-take-le (2 * t .width) X (omega (arith, line-within w))
+
 -- the slices keep their lengths
 pub within-kept : {len scratch len' scratch' base p : ℕ} {t : Region} → len' ≡ len → scratch' ≡ scratch → Within len scratch base p t → Within len' scratch' base p t
 within-kept e f w =
