@@ -12,7 +12,7 @@ use Rattle.builder.proofs.build.build_levels.Statement.{statement}
 use Rattle.builder.proofs.build.build_levels.Tie as tie
 
 naturals-requires : tie.Need-naturals-requires
-naturals-requires c κs = search needs
+naturals-requires c κs = tt
 
 count : (c : tie.After-naturals) → c .naturals .result .levels ≡ levelsOf (c .before .before .before .before .before .before .args .layout)
 count c = ap (λ (x : Naturals). x .levels) (c .naturals .ensures)

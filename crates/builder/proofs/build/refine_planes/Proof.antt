@@ -16,7 +16,7 @@ use Rattle.builder.proofs.build.refine_planes.Statement.{statement}
 use Rattle.builder.proofs.build.refine_planes.Tie as tie
 
 naturals-requires : tie.Need-naturals-requires
-naturals-requires c κs = search needs
+naturals-requires c κs = tt
 
 -- the test by the record's own numbers
 tests : (c : tie.After-naturals) → (ltb 1 (c .naturals .result .pel) && ltb (c .naturals .result .gpu) 2 && c .before .before .before .before .before .args .layout .opts .full) ≡ refines (c .before .before .before .before .before .args .layout)
@@ -29,13 +29,13 @@ returns c =
     refined-no (a .layout) _ (sym (tests at-naturals) ∙ not-true _ (c .if1 .taken))
 
 width-requires : tie.Need-width-requires
-width-requires c κs = search needs
+width-requires c κs = tt
 
 height-requires : tie.Need-height-requires
-height-requires c κs = search needs
+height-requires c κs = tt
 
 from-option-requires : tie.Need-from-option-requires
-from-option-requires c κs = search needs
+from-option-requires c κs = tt
 
 refine-requires : tie.Need-refine-requires
 refine-requires c κs =

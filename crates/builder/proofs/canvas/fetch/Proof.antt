@@ -14,7 +14,7 @@ use Rattle.builder.proofs.canvas.fetch.Statement.{statement}
 use Rattle.builder.proofs.canvas.fetch.Tie as tie
 
 read-requires : tie.Need-read-requires
-read-requires c κs = search needs
+read-requires c κs = tt
 
 same-length : tie.Need-same-length
 same-length c = c .before .before .read .kept .0
@@ -74,7 +74,7 @@ part-read-end : tie.Need-part-read-end
 part-read-end c = search needs
 
 read-requires-2 : tie.Need-read-requires-2
-read-requires-2 c κs = search needs
+read-requires-2 c κs = tt
 
 same-length-3 : tie.Need-same-length-3
 same-length-3 c =

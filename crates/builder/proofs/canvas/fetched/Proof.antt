@@ -4,7 +4,6 @@ use mathlib.Core.List.{_++_}
 use lib.ListN.{length}
 use lib.Seq.{length-take-le}
 use denote.Ref.{now}
-use borrow.Author.Needs.{needs}
 use Rattle.builder.specs.Canvas.{fetch}
 use Rattle.builder.proofs.Runs.{fetch-length}
 use Rattle.builder.proofs.canvas.fetched.Statement.{statement}
@@ -14,7 +13,7 @@ slice-aggregate-out : tie.Need-slice-aggregate-out
 slice-aggregate-out c = let s = c .before .before .before .before in sym (length-take-le (s .args .n) (now (s .args .scratch)) (s .pre))
 
 fetch-requires : tie.Need-fetch-requires
-fetch-requires c κs = search needs
+fetch-requires c κs = tt
 
 returns : tie.Need-returns
 returns c =

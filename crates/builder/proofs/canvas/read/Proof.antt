@@ -14,7 +14,7 @@ use Rattle.builder.proofs.canvas.read.Statement.{statement}
 use Rattle.builder.proofs.canvas.read.Tie as tie
 
 zero-row-requires : tie.Need-zero-row-requires
-zero-row-requires c κs = search needs
+zero-row-requires c κs = tt
 
 same-length : tie.Need-same-length
 same-length c = c .before .before .zero-row .kept .0
@@ -71,7 +71,7 @@ part-zero-row-end : tie.Need-part-zero-row-end
 part-zero-row-end c = search needs
 
 zero-row-requires-2 : tie.Need-zero-row-requires-2
-zero-row-requires-2 c κs = search needs
+zero-row-requires-2 c κs = tt
 
 same-length-3 : tie.Need-same-length-3
 same-length-3 c =

@@ -16,7 +16,7 @@ part-zero-row-end : tie.Need-part-zero-row-end
 part-zero-row-end c = search needs
 
 zero-row-requires : tie.Need-zero-row-requires
-zero-row-requires c κs = search needs
+zero-row-requires c κs = tt
 
 same-length : tie.Need-same-length
 same-length c = search needs

@@ -17,7 +17,7 @@ down : (c : tie.After-struct-told) → SFits w32 (c .before .before .before .bef
 down c = search needs
 
 from-option-requires : tie.Need-from-option-requires
-from-option-requires c κs = search needs
+from-option-requires c κs = tt
 
 enum-known-filter : tie.Need-enum-known-filter
 enum-known-filter c = search needs
@@ -33,7 +33,7 @@ returns c =
     sym (ap (λ (k : Chosen). halved (a .layout) (now (a .src)) (a .sp) (length (now (a .frame))) k (now (a .frame) ++ now (a .spill))) none)
 
 reduce-each-requires : tie.Need-reduce-each-requires
-reduce-each-requires c κs = search needs
+reduce-each-requires c κs = c .before .before .before .before .before .before .before .before .before .before .before .before .before .pre
 
 same-length : tie.Need-same-length
 same-length c = c .before .before .before .before .before .before .reduce-each .kept .1 .0

@@ -13,13 +13,13 @@ use Rattle.builder.proofs.levels.frame_tested.Statement.{statement}
 use Rattle.builder.proofs.levels.frame_tested.Tie as tie
 
 written-end-requires : tie.Need-written-end-requires
-written-end-requires c κs = search needs
+written-end-requires c κs = tt
 
 enum-known-end : tie.Need-enum-known-end
 enum-known-end c = search needs
 
 then-refuse-requires : tie.Need-then-refuse-requires
-then-refuse-requires c κs = search needs
+then-refuse-requires c κs = tt
 
 enum-known-f : tie.Need-enum-known-f
 enum-known-f c = search needs

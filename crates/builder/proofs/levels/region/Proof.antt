@@ -3,7 +3,6 @@ use mathlib.Core.Path.{sym, ap}
 use native.Mathlib.Omega.{arith}
 use borrow.Author.Tests.{lt-ltb, le-ltb}
 use lib.Dec.{ltb}
-use borrow.Author.Needs.{needs}
 use Rattle.settings.specs.declared.super_opts.Naturals.{Naturals}
 use Rattle.settings.proofs.Accepted.{within}
 use Rattle.builder.specs.Layout.{levelsOf, regionAt, noRegion}
@@ -13,7 +12,7 @@ use Rattle.builder.proofs.levels.region.Statement.{statement}
 use Rattle.builder.proofs.levels.region.Tie as tie
 
 naturals-requires : tie.Need-naturals-requires
-naturals-requires c κs = search needs
+naturals-requires c κs = tt
 
 returns : tie.Need-returns
 returns c =
@@ -28,10 +27,10 @@ offset-requires c κs =
     (s .pre, omega (arith, within (s .args .layout .opts) (allowed (s .args .layout) (s .pre) .good) .levels))
 
 width-requires : tie.Need-width-requires
-width-requires c κs = search needs
+width-requires c κs = tt
 
 height-requires : tie.Need-height-requires
-height-requires c κs = search needs
+height-requires c κs = tt
 
 returns-2 : tie.Need-returns-2
 returns-2 c =

@@ -22,7 +22,7 @@ returns-2 c =
     sym (stored-first q (start .args .level) (c .before .before .before .if1 .left) ∙ cond-no (q .opts .full) (pelOf (q .opts) * pelOf (q .opts)) 0 (not-true _ (c .if2 .taken)))
 
 naturals-requires : tie.Need-naturals-requires
-naturals-requires c κs = search needs
+naturals-requires c κs = tt
 
 cast-result : tie.Need-cast-result
 cast-result c = search needs

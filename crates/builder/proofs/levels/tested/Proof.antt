@@ -1,26 +1,25 @@
 -- `tested` meets its contract. Assumes nothing.
-use borrow.Author.Needs.{needs}
 use Rattle.builder.specs.Numbers.{layoutNo}
 use Rattle.builder.proofs.levels.tested.Statement.{statement}
 use Rattle.builder.proofs.levels.tested.Tie as tie
 
 accepted-requires : tie.Need-accepted-requires
-accepted-requires c κs = search needs
+accepted-requires c κs = tt
 
 least-pitch-requires : tie.Need-least-pitch-requires
-least-pitch-requires c κs = search needs
+least-pitch-requires c κs = tt
 
 bad-pitch-requires : tie.Need-bad-pitch-requires
-bad-pitch-requires c κs = search needs
+bad-pitch-requires c κs = tt
 
 then-refuse-requires : tie.Need-then-refuse-requires
-then-refuse-requires c κs = search needs
+then-refuse-requires c κs = tt
 
 then-refuse-requires-2 : tie.Need-then-refuse-requires-2
-then-refuse-requires-2 c κs = search needs
+then-refuse-requires-2 c κs = tt
 
 then-refuse-requires-3 : tie.Need-then-refuse-requires-3
-then-refuse-requires-3 c κs = search needs
+then-refuse-requires-3 c κs = tt
 
 returns : tie.Need-returns
 unfolding layoutNo

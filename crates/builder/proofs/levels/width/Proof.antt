@@ -8,13 +8,13 @@ use Rattle.builder.proofs.levels.width.Statement.{statement}
 use Rattle.builder.proofs.levels.width.Tie as tie
 
 naturals-requires : tie.Need-naturals-requires
-naturals-requires c κs = search needs
+naturals-requires c κs = tt
 
 reduce-dim-requires : tie.Need-reduce-dim-requires
-reduce-dim-requires c κs = search needs
+reduce-dim-requires c κs = tt
 
 shifted-requires : tie.Need-shifted-requires
-shifted-requires c κs = search needs
+shifted-requires c κs = tt
 
 cast-result : tie.Need-cast-result
 cast-result c = search needs

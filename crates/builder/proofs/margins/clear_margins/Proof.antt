@@ -16,7 +16,7 @@ passed : (c : tie.After-clear-levels-arg) → frameNo (c .before .before .before
 passed c = sym (c .before .before .before .frame-tested .ensures) ∙ ap tested (c .before .enum-told .given .1)
 
 frame-tested-requires : tie.Need-frame-tested-requires
-frame-tested-requires c κs = search needs
+frame-tested-requires c κs = tt
 
 enum-told : tie.Need-enum-told
 enum-told c = search needs

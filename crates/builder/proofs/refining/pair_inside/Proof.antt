@@ -34,7 +34,7 @@ slice-read-mean-2 : tie.Need-slice-read-mean-2 Inv-loop μ-loop
 slice-read-mean-2 c = omega arith
 
 mean-requires : tie.Need-mean-requires Inv-loop μ-loop
-mean-requires c κs = search needs
+mean-requires c κs = tt
 
 add-frame : tie.Need-add-frame Inv-loop μ-loop
 add-frame c = omega arith

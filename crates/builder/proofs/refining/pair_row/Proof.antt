@@ -44,7 +44,7 @@ returns c =
     ∙ pair-left (now (a .frame)) (now (a .spill)) (a .t) (a .l) (a .r) (a .n) (omega (arith, at-if1 .if1 .taken, at-if2 .if2 .taken)) (at-if3 .if3 .taken) (at-if2 .if2 .taken)
 
 pair-apart-requires : tie.Need-pair-apart-requires
-pair-apart-requires c κs = search needs
+pair-apart-requires c κs = c .before .before .before .before .before .before .before .pre
 
 same-length-2 : tie.Need-same-length-2
 same-length-2 c = c .before .before .before .before .before .before .pair-apart .kept .0
@@ -56,7 +56,7 @@ same-length-4 : tie.Need-same-length-4
 same-length-4 c = c .before .before .before .before .before .before .pair-apart .kept .1 .1 .0
 
 returns-2 : tie.Need-returns-2
-returns-2 c = search needs
+returns-2 c = c .before .before .before .before .before .before .pair-apart .ensures
 
 pub pair-row-spec : {M : Type 1} → statement M
 pair-row-spec =

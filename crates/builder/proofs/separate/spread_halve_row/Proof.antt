@@ -3,6 +3,7 @@ use mathlib.Core.Path.{sym, ap, _∙_}
 use mathlib.Core.List.{_++_}
 use Prim.Native.Nat.{ℕ}
 use native.Mathlib.Omega.{arith}
+use borrow.Table.Elements.{same-len}
 use denote.Ref.{now}
 use Rattle.filters.specs.Halve.{reducedApart}
 use Rattle.builder.specs.Canvas.{put}
@@ -12,7 +13,7 @@ use Rattle.builder.proofs.separate.spread_halve_row.Statement.{statemen
 use Rattle.builder.proofs.separate.spread_halve_row.Tie as tie
 
 take-row-requires : tie.Need-take-row-requires
-take-row-requires c κs = search needs
+take-row-requires c κs = let entered = c .before .before .before .before .before .before .before .before in (entered .pre .0, entered .pre .2, entered .pre .3)
 
 slice-relend-prefix-row : tie.Need-slice-relend-prefix-row
 slice-relend-prefix-row c = search needs
@@ -44,7 +45,11 @@ same-length-2 : tie.Need-same-length-2
 same-length-2 c = c .before .before .before .before .before .before .store .kept .1 .0
 
 same-length-3 : tie.Need-same-length-3
-same-length-3 c = search needs
+same-length-3 c =
+    let at-reduce-row = c .before .before .before .before .before .before .before .before .before .before .before .before in
+    let at-take-row = at-reduce-row .before .before .before .before .before .before .before .before in
+    let a = at-take-row .before .before .before .before .before .before .before .before .before .args in
+    same-len (a .w) (at-take-row .take-row .last .1 .1 .1 .0) (at-reduce-row .reduce-row .last .1 .0) (at-reduce-row .reduce-row .kept .1 .0) ∙ at-take-row .take-row .kept .1 .1 .1 .0
 
 same-length-4 : tie.Need-same-length-4
 same-length-4 c = c .before .before .before .before .before .before .before .before .before .before .before .before .before .before .before .before .before .before .before .before .take-row .kept .0

@@ -1,8 +1,12 @@
 -- `inner_line` meets its contract. Assumes nothing.
+use mathlib.Core.List.{_++_}
 use mathlib.Core.Path.{sym, _∙_}
 use native.Mathlib.Omega.{arith}
-use lib.ListN.{length}
+use lib.ListN.{length, drop}
 use lib.Seq.{length-take-le}
+use Prim.Native.Nat.{_-_}
+use borrow.Rule.Slice.PartMut.{same-len-mid}
+use borrow.Table.Elements.{same-len}
 use denote.Ref.{now}
 use Rattle.builder.proofs.Runs.{rest-length}
 use Rattle.builder.proofs.Lines.{rest-reach, inner-all, inner-both}
@@ -11,7 +15,7 @@ use Rattle.builder.proofs.vertical.inner_line.Statement.{statement}
 use Rattle.builder.proofs.vertical.inner_line.Tie as tie
 
 whole-columns-requires : tie.Need-whole-columns-requires
-whole-columns-requires c κs = search needs
+whole-columns-requires c κs = tt
 
 slice-relend-prefix-whole-line : tie.Need-slice-relend-prefix-whole-line
 slice-relend-prefix-whole-line c = search needs
@@ -23,7 +27,11 @@ whole-line-requires : tie.Need-whole-line-requires
 whole-line-requires c κs = (omega (arith, c .before .before .before .before .pre), omega (arith, c .before .before .before .before .pre, length-take-le (c .before .whole-columns .result) (now (c .before .before .before .before .args .out)) (c .before .whole-columns .ensures .1), c .before .whole-columns .ensures .1))
 
 same-length : tie.Need-same-length
-same-length c = search needs
+same-length c =
+    let at-whole-line = c .before .before .before in
+    let at-whole-columns = at-whole-line .before .before in
+    let a = at-whole-columns .before .before .before .args in
+    same-len (at-whole-columns .whole-columns .result) (now (a .out)) (at-whole-line .whole-line .last .1 .0) (at-whole-line .whole-line .kept .1 .0)
 
 returns : tie.Need-returns
 returns c =
@@ -53,7 +61,15 @@ rest-line-requires c κs =
     (omega (arith, a .pre), omega (arith, a .pre, w .ensures .1, rest, rest-reach (a .args .filter) (length (now (a .args .out))) (a .args .sp) (w .ensures .0) (c .before .if1 .left)))
 
 same-length-2 : tie.Need-same-length-2
-same-length-2 c = search needs
+same-length-2 c =
+    let at-rest-line = c .before .before in
+    let at-whole-line = at-rest-line .before .before .before .before .before in
+    let at-whole-columns = at-whole-line .before .before in
+    let a = at-whole-columns .before .before .before .args in
+    let k = at-whole-columns .whole-columns .result in
+    let l = at-whole-line .whole-line .last .1 .0 in
+    let out = l ++ drop k (now (a .out)) in
+    same-len-mid k (length out - k) out (at-rest-line .rest-line .last .0) (at-rest-line .rest-line .kept .0) ∙ same-len k (now (a .out)) l (at-whole-line .whole-line .kept .1 .0)
 
 returns-2 : tie.Need-returns-2
 returns-2 c =

@@ -9,10 +9,10 @@ use Rattle.builder.proofs.vertical.whole_line.Statement.{statement}
 use Rattle.builder.proofs.vertical.whole_line.Tie as tie
 
 first-row-requires : tie.Need-first-row-requires
-first-row-requires c κs = search needs
+first-row-requires c κs = tt
 
 last-row-requires : tie.Need-last-row-requires
-last-row-requires c κs = search needs
+last-row-requires c κs = tt
 
 mul-span : tie.Need-mul-span
 mul-span c = omega (arith, first-reach (c .before .before .before .before .args .filter) (c .before .before .before .before .args .sp) (c .before .first-row .ensures))
@@ -39,7 +39,7 @@ span-requires-4 : tie.Need-span-requires-4
 span-requires-4 c κs = omega (arith, last-reach (c .before .before .before .before .before .before .before .args .filter) (c .before .before .before .before .before .before .before .args .sp) (c .before .before .before .last-row .ensures), c .before .before .before .before .before .before .before .pre)
 
 second-requires : tie.Need-second-requires
-second-requires c κs = search needs
+second-requires c κs = tt
 
 mul-span-2 : tie.Need-mul-span-2
 mul-span-2 c = omega (arith, second-reach (c .before .before .before .before .before .before .before .before .before .args .filter) (c .before .before .before .before .before .before .before .before .before .args .sp) (c .second .ensures) (c .before .before .before .before .before .last-row .ensures), c .before .before .before .before .before .before .before .before .before .pre)

@@ -11,7 +11,7 @@ use Rattle.builder.proofs.layout.Layout.level_regions.Statement.{statem
 use Rattle.builder.proofs.layout.Layout.level_regions.Tie as tie
 
 tested-requires : tie.Need-tested-requires
-tested-requires c κs = search needs
+tested-requires c κs = tt
 
 enum-told : tie.Need-enum-told
 enum-told c = search needs

@@ -15,13 +15,13 @@ enum-told : tie.Need-enum-told
 enum-told c = search needs
 
 mean-planes-requires : tie.Need-mean-planes-requires
-mean-planes-requires c κs = search needs
+mean-planes-requires c κs = c .before .before .before .before .before .before .before .before .pre
 
 enum-known-upscale : tie.Need-enum-known-upscale
 enum-known-upscale c = search needs
 
 kernel-planes-requires : tie.Need-kernel-planes-requires
-kernel-planes-requires c κs = search needs
+kernel-planes-requires c κs = let entered = c .before .before .before .before .before .before .before .before in (entered .pre .0, entered .pre .1)
 
 same-length : tie.Need-same-length
 same-length c = c .before .before .before .before .before .before .mean-planes .kept .1 .0

@@ -11,13 +11,13 @@ use Rattle.builder.proofs.refining.Interp.vertical_line.Statement.{stat
 use Rattle.builder.proofs.refining.Interp.vertical_line.Tie as tie
 
 above-requires : tie.Need-above-requires
-above-requires c κs = search needs
+above-requires c κs = tt
 
 row-requires : tie.Need-row-requires
 row-requires c κs = let a = c .before .before .before .args in let i = a .self in row-fits (length (now (a .frame))) (a .s) (i .width) (i .pitch) (i .height + 3) (c .above .result) (c .before .before .before .pre .3) (c .before .before .before .pre .4) (omega (arith, c .before .before .before .pre .0, c .above .ensures))
 
 above-requires-2 : tie.Need-above-requires-2
-above-requires-2 c κs = search needs
+above-requires-2 c κs = tt
 
 row-requires-2 : tie.Need-row-requires-2
 row-requires-2 c κs =
