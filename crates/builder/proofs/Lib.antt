@@ -6,7 +6,7 @@
 --     Lines      one row of a later level before it is halved
 --     Halves     a row of it halved in its place, and a row of the fused cubic
 --     Refined    a row stored in the list that it is read of; the planes of level 0
---     Spreads    level 1 from the source plane: loops over the rows of a frame and its spill
+--     Spreads    level 1 from the source plane: its rows in a frame and its spill
 --     Prepared   a build that isn't refused: what its stages need is there, and those inside the frame don't see the spill
 --     Whole      a build, whole: what the refusals leave, level 0's rows and planes, and its stages one after the other
 --     Views      the view `Level0` and the plain parameters that stand for it

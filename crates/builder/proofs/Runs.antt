@@ -315,6 +315,36 @@ walked-next step {c₀} {c} {c'} {h} {y} some w lt len e =
     let next : y - 1 + 1 ≡ y + 1 - 1 = omega arith in
     subst (λ (k : ℕ). Walked (λ i. step (i + 1)) c₀ c' (h - 1) k) next (walked-more w (omega arith) len (e ∙ ap (λ (k : ℕ). step k c) here))
 
+-- what a loop over rows, planes or levels knows at its head, of frame, spill and scratch
+pub record Passed (step : ℕ → List ℕ → List ℕ) (F₀ S₀ X₀ F S X : List ℕ) (h y : ℕ) : Type 0 where
+  pub walk : Walked step (F₀ ++ S₀) (F ++ S) h y
+  pub frame : length F ≡ length F₀
+  pub spill : length S ≡ length S₀
+  pub scratch : length X ≡ length X₀
+
+pub passed-none : {step : ℕ → List ℕ → List ℕ} {F S X : List ℕ} {h : ℕ} → Passed step F S X F S X h 0
+passed-none = record { walk = walked-none; frame = refl; spill = refl; scratch = refl }
+
+module _ {F₀ S₀ X₀ F S X F' S' X' : List ℕ} {h y : ℕ} where
+  pub passed-more : {step : ℕ → List ℕ → List ℕ} → Passed step F₀ S₀ X₀ F S X h y → y < h → length F' ≡ length F → length S' ≡ length S → length X' ≡ length X → F' ++ S' ≡ step y (F ++ S) → Passed step F₀ S₀ X₀ F' S' X' h (y + 1)
+  passed-more w lt ef es ex e =
+      record {
+        walk = walked-more (w .walk) lt (both-lengths F' S' F S ef es) e;
+        frame = ef ∙ w .frame;
+        spill = es ∙ w .spill;
+        scratch = ex ∙ w .scratch;
+      }
+
+  -- a loop that counts from 1
+  pub passed-next : (step : ℕ → List ℕ → List ℕ) → 1 ≤ y → Passed (λ i. step (i + 1)) F₀ S₀ X₀ F S X (h - 1) (y - 1) → y < h → length F' ≡ length F → length S' ≡ length S → length X' ≡ length X → F' ++ S' ≡ step y (F ++ S) → Passed (λ i. step (i + 1)) F₀ S₀ X₀ F' S' X' (h - 1) (y + 1 - 1)
+  passed-next step some w lt ef es ex e =
+      record {
+        walk = walked-next step some (w .walk) lt (both-lengths F' S' F S ef es) e;
+        frame = ef ∙ w .frame;
+        spill = es ∙ w .spill;
+        scratch = ex ∙ w .scratch;
+      }
+
 -- ---- stages that keep the length of a list of len bytes: nothing is stored past it
 pub record Keeps (len : ℕ) (stage : List ℕ → List ℕ) : Type 0 where
   pub same : (c : List ℕ) → length c ≡ len → length (stage c) ≡ len

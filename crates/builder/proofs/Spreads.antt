@@ -1,6 +1,6 @@
--- Level 1 from the source plane: its rows lie in frame and spill, what a loop over them knows, and a row halved in its place. Assumes nothing.
-use mathlib.Core.Path.{_≡_, refl, ap, _∙_}
-use mathlib.Core.List.{List, _++_}
+-- Level 1 from the source plane: its rows lie in frame and spill, and a row halved in its place. Assumes nothing.
+use mathlib.Core.Path.{_≡_, ap}
+use mathlib.Core.List.{List}
 use Prim.Native.Nat.{ℕ, _+_, _*_, _-_, _≤_, _<_}
 use native.Mathlib.Omega.{arith}
 use lib.ListN.{length, take}
@@ -12,7 +12,7 @@ use Rattle.builder.specs.declared.layout.Region.{Region}
 use Rattle.builder.specs.Canvas.{fetch, put}
 use Rattle.builder.specs.Halving.{halveRun}
 use Rattle.builder.specs.Room.{Spread}
-use Rattle.builder.proofs.Runs.{fetch-length, row-in, Walked, walked-none, walked-more, walked-next, both-lengths}
+use Rattle.builder.proofs.Runs.{fetch-length, row-in}
 
 -- ---- rows
 -- row y of h that are 2 * p apart
@@ -28,15 +28,7 @@ spread-at {p = p} {y = y} {t = t} s lt = spread-row (t .offset) y (t .height) p 
 
 -- the slices keep their lengths
 pub spread-kept : {n sp len spill scratch len' spill' scratch' p : ℕ} {t : Region} → len' ≡ len → spill' ≡ spill → scratch' ≡ scratch → Spread n sp len spill scratch p t → Spread n sp len' spill' scratch' p t
-spread-kept e f g s =
-    record {
-      some = s .some;
-      fits = s .fits;
-      narrow = s .narrow;
-      source = s .source;
-      beyond = omega (arith, s .beyond);
-      room = omega (arith, s .room);
-    }
+spread-kept e f g s = rw (e, f, g) s
 
 -- scratch X holds a row before it is halved
 pub spread-line : {n sp len spill p : ℕ} {t : Region} (X : List ℕ) → Spread n sp len spill (length X) p t → length (take (2 * t .width) X) ≡ 2 * t .width
@@ -45,39 +37,6 @@ spread-line {t = t} X s = length-take-le (2 * t .width) X (omega (arith, s .fits
 -- and scratch that came back as X holds it when it is halved
 pub half-line : (w : ℕ) (X : List ℕ) {n : ℕ} → length X ≡ n → 2 * w ≤ n → length (take w X) ≡ w
 half-line w X same fits = length-take-le w X (omega arith)
-
-pub spread-same : {n sp len spill scratch len' spill' scratch' p : ℕ} {t : Region} → Spread n sp len spill scratch p t → len' ≡ len → spill' ≡ spill → scratch' ≡ scratch → Spread n sp len' spill' scratch' p t
-spread-same s e f g = rw (e, f, g) s
-
--- ---- what a loop over the rows knows at its head, of frame, spill and scratch
-pub record Passed (step : ℕ → List ℕ → List ℕ) (F₀ S₀ X₀ F S X : List ℕ) (h y : ℕ) : Type 0 where
-  pub walk : Walked step (F₀ ++ S₀) (F ++ S) h y
-  pub frame : length F ≡ length F₀
-  pub spill : length S ≡ length S₀
-  pub scratch : length X ≡ length X₀
-
-pub passed-none : {step : ℕ → List ℕ → List ℕ} {F S X : List ℕ} {h : ℕ} → Passed step F S X F S X h 0
-passed-none = record { walk = walked-none; frame = refl; spill = refl; scratch = refl }
-
-module _ {F₀ S₀ X₀ F S X F' S' X' : List ℕ} {h y : ℕ} where
-  pub passed-more : {step : ℕ → List ℕ → List ℕ} → Passed step F₀ S₀ X₀ F S X h y → y < h → length F' ≡ length F → length S' ≡ length S → length X' ≡ length X → F' ++ S' ≡ step y (F ++ S) → Passed step F₀ S₀ X₀ F' S' X' h (y + 1)
-  passed-more w lt ef es ex e =
-      record {
-        walk = walked-more (w .walk) lt (both-lengths F' S' F S ef es) e;
-        frame = ef ∙ w .frame;
-        spill = es ∙ w .spill;
-        scratch = ex ∙ w .scratch;
-      }
-
-  -- a loop that counts from 1
-  pub passed-next : (step : ℕ → List ℕ → List ℕ) → 1 ≤ y → Passed (λ i. step (i + 1)) F₀ S₀ X₀ F S X (h - 1) (y - 1) → y < h → length F' ≡ length F → length S' ≡ length S → length X' ≡ length X → F' ++ S' ≡ step y (F ++ S) → Passed (λ i. step (i + 1)) F₀ S₀ X₀ F' S' X' (h - 1) (y + 1 - 1)
-  passed-next step some w lt ef es ex e =
-      record {
-        walk = walked-next step some (w .walk) lt (both-lengths F' S' F S ef es) e;
-        frame = ef ∙ w .frame;
-        spill = es ∙ w .spill;
-        scratch = ex ∙ w .scratch;
-      }
 
 -- ---- a row halved in its place, from its pairs taken apart
 pub halved-run : (f : ReduceFilter) (w at : ℕ) (c : List ℕ) {s : List ℕ} → 1 ≤ w → Apart w w (headed (fetch c at (2 * w))) s → put c at (reducedApart f w s) ≡ halveRun f w at c

@@ -8,8 +8,7 @@ use Rattle.settings.specs.declared.super_opts.Naturals.{Naturals}
 use mathlib.Core.List.{_++_}
 use Rattle.builder.specs.Canvas.{steps}
 use Rattle.builder.specs.Build.{halveLevel, halved}
-use Rattle.builder.proofs.Runs.{walked-whole, next-less}
-use Rattle.builder.proofs.Spreads.{Passed, passed-none, passed-next}
+use Rattle.builder.proofs.Runs.{walked-whole, next-less, Passed, passed-none, passed-next}
 use Rattle.builder.proofs.Prepared.{ready-kept}
 use Rattle.builder.proofs.later.reduce_each.Statement.{statement}
 use Rattle.builder.proofs.later.reduce_each.Tie as tie

@@ -1,25 +1,25 @@
 -- `quarters` meets its contract. The loop has made the pairs passed. Assumes nothing.
-use mathlib.Core.Path.{_≡_, refl, _∙_}
+use mathlib.Core.Path.{_∙_}
 use mathlib.Core.List.{_++_}
 use Prim.Native.Nat.{_+_, _-_}
 use native.Mathlib.Omega.{arith}
-use lib.ListN.{length, getD}
+use lib.ListN.{getD}
 use mir.Facts.{fits-lit}
 use denote.Ref.{now}
 use Rattle.builder.specs.Refining.{pairOf, pairs, quarter}
-use Rattle.builder.proofs.Runs.{both-lengths, Walked, walked-none, walked-more, walked-whole, next-fits, next-less}
+use Rattle.builder.proofs.Runs.{walked-whole, Passed, passed-none, passed-more, next-fits, next-less}
 use Rattle.builder.proofs.Refined.{planes-kept, table-row, table-walked}
 use Rattle.builder.proofs.refining.quarters.Statement.{statement}
 use Rattle.builder.proofs.refining.quarters.Tie as tie
 
 abbrev Inv-loop : tie.InvT-loop
-Inv-loop frame₀ spill₀ scratch₀ i k₀ frame spill scratch k = Walked (λ j. quarter i (getD pairs j (pairOf 0 0 0 0 0))) (frame₀ ++ spill₀) (frame ++ spill) 12 k × (length frame ≡ length frame₀) × (length spill ≡ length spill₀) × (length scratch ≡ length scratch₀)
+Inv-loop frame₀ spill₀ scratch₀ i k₀ frame spill scratch k = Passed (λ j. quarter i (getD pairs j (pairOf 0 0 0 0 0))) frame₀ spill₀ scratch₀ frame spill scratch 12 k
 
 abbrev μ-loop : tie.MeasureT-loop
 μ-loop frame₀ spill₀ scratch₀ i k₀ frame spill scratch k = 12 - k
 
 loop-holds : tie.Need-loop-holds Inv-loop μ-loop
-loop-holds c = (walked-none, refl, refl, refl)
+loop-holds c = passed-none
 
 mul-q : tie.Need-mul-q Inv-loop μ-loop
 mul-q c = omega arith
@@ -33,7 +33,7 @@ quarter-requires c κs =
     let at-loop = at-loop-test .before in
     let entered = at-loop .before .before .before .before in
     let v = at-loop .loop .inv in
-    (table-row (at-loop .loop .k) (at-loop-test .loop-test .taken), planes-kept (entered .pre .0) (v .1) (v .3), omega (arith, entered .pre .1, v .2))
+    (table-row (at-loop .loop .k) (at-loop-test .loop-test .taken), planes-kept (entered .pre .0) (v .frame) (v .scratch), omega (arith, entered .pre .1, v .spill))
 
 add-k : tie.Need-add-k Inv-loop μ-loop
 add-k c = next-fits (c .before .before .before .before .before .before .before .before .before .before .before .loop-test .taken) (fits-lit tt)
@@ -49,19 +49,19 @@ loop-again c =
     let q = at-quarter .quarter in
     let l = at-loop .loop in
     let v = l .inv in
-    (walked-more (v .0) (at-loop-test .loop-test .taken) (both-lengths (q .last .0) (q .last .1 .0) (l .frame) (l .spill) (q .kept .0) (q .kept .1 .0)) (q .ensures), q .kept .0 ∙ v .1, q .kept .1 .0 ∙ v .2, q .kept .1 .1 .0 ∙ v .3)
+    passed-more v (at-loop-test .loop-test .taken) (q .kept .0) (q .kept .1 .0) (q .kept .1 .1 .0) (q .ensures)
 
 same-length : tie.Need-same-length Inv-loop μ-loop
-same-length c = c .before .loop .inv .1
+same-length c = c .before .loop .inv .frame
 
 same-length-2 : tie.Need-same-length-2 Inv-loop μ-loop
-same-length-2 c = c .before .loop .inv .2
+same-length-2 c = c .before .loop .inv .spill
 
 same-length-3 : tie.Need-same-length-3 Inv-loop μ-loop
-same-length-3 c = c .before .loop .inv .3
+same-length-3 c = c .before .loop .inv .scratch
 
 returns : tie.Need-returns Inv-loop μ-loop
-returns c = let a = c .before .before .before .before .before .args in walked-whole (c .before .loop .inv .0) (c .loop-test .left) ∙ table-walked (a .i) (now (a .frame) ++ now (a .spill))
+returns c = let a = c .before .before .before .before .before .args in walked-whole (c .before .loop .inv .walk) (c .loop-test .left) ∙ table-walked (a .i) (now (a .frame) ++ now (a .spill))
 
 pub quarters-spec : {M : Type 1} → statement M
 quarters-spec =

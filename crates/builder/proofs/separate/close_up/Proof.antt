@@ -5,8 +5,8 @@ use lib.ListN.{length}
 use denote.Ref.{now}
 use Rattle.builder.specs.Canvas.{copyRun}
 use Rattle.builder.specs.Halving.{closeUp}
-use Rattle.builder.proofs.Runs.{walked-whole, next-fits, next-less}
-use Rattle.builder.proofs.Spreads.{spread-row, closed-row, Passed, passed-none, passed-next}
+use Rattle.builder.proofs.Runs.{walked-whole, next-fits, next-less, Passed, passed-none, passed-next}
+use Rattle.builder.proofs.Spreads.{spread-row, closed-row}
 use Rattle.builder.proofs.separate.close_up.Statement.{statement}
 use Rattle.builder.proofs.separate.close_up.Tie as tie
 

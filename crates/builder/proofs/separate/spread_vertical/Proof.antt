@@ -3,8 +3,8 @@ use Prim.Native.Nat.{_+_, _*_, _-_}
 use native.Mathlib.Omega.{arith}
 use Rattle.builder.specs.Canvas.{put}
 use Rattle.builder.specs.Halving.{wholeOf, verticalLine, verticalRows}
-use Rattle.builder.proofs.Runs.{walked-whole, next-less}
-use Rattle.builder.proofs.Spreads.{spread-same, Passed, passed-none, passed-more}
+use Rattle.builder.proofs.Runs.{walked-whole, next-less, Passed, passed-none, passed-more}
+use Rattle.builder.proofs.Spreads.{spread-kept}
 use Rattle.builder.proofs.separate.spread_vertical.Statement.{statement}
 use Rattle.builder.proofs.separate.spread_vertical.Tie as tie
 
@@ -20,7 +20,7 @@ loop-holds : tie.Need-loop-holds Inv-loop μ-loop
 loop-holds c = passed-none
 
 spread-vertical-row-requires : tie.Need-spread-vertical-row-requires Inv-loop μ-loop
-spread-vertical-row-requires c κs = let i = c .before .before .before .before .loop .inv in (spread-same (c .before .before .before .before .before .before .before .before .before .pre) (i .frame) (i .spill) (i .scratch), c .before .before .before .loop-test .taken)
+spread-vertical-row-requires c κs = let i = c .before .before .before .before .loop .inv in (spread-kept (i .frame) (i .spill) (i .scratch) (c .before .before .before .before .before .before .before .before .before .pre), c .before .before .before .loop-test .taken)
 
 add-y : tie.Need-add-y Inv-loop μ-loop
 add-y c = omega arith

@@ -1,18 +1,17 @@
 -- `pair` meets its contract. The loop has made the rows passed. Assumes nothing.
-use mathlib.Core.Path.{_≡_, refl, ap, _∙_}
+use mathlib.Core.Path.{ap, _∙_}
 use mathlib.Core.List.{_++_}
 use Prim.Native.Nat.{ℕ, _+_, _*_, _-_}
 use native.Mathlib.Omega.{arith}
-use lib.ListN.{length}
 use denote.Ref.{now}
 use Rattle.builder.specs.Canvas.{steps}
 use Rattle.builder.specs.Refining.{pairRun, pairPlane}
-use Rattle.builder.proofs.Runs.{both-lengths, row-in, Walked, walked-none, walked-more, walked-whole, next-fits, next-less}
+use Rattle.builder.proofs.Runs.{row-in, walked-whole, Passed, passed-none, passed-more, next-fits, next-less}
 use Rattle.builder.proofs.refining.Interp.pair.Statement.{statement}
 use Rattle.builder.proofs.refining.Interp.pair.Tie as tie
 
 abbrev Inv-loop : tie.InvT-loop
-Inv-loop self frame₀ spill₀ scratch₀ t l r n height y₀ frame spill scratch y = Walked (λ k. pairRun (t + k * self .pitch) (l + k * self .pitch) (r + k * self .pitch) n) (frame₀ ++ spill₀) (frame ++ spill) height y × (length frame ≡ length frame₀) × (length spill ≡ length spill₀) × (length scratch ≡ length scratch₀)
+Inv-loop self frame₀ spill₀ scratch₀ t l r n height y₀ frame spill scratch y = Passed (λ k. pairRun (t + k * self .pitch) (l + k * self .pitch) (r + k * self .pitch) n) frame₀ spill₀ scratch₀ frame spill scratch height y
 
 abbrev μ-loop : tie.MeasureT-loop
 μ-loop self frame₀ spill₀ scratch₀ t l r n height y₀ frame spill scratch y = height - y
@@ -21,7 +20,7 @@ chunked-requires : tie.Need-chunked-requires Inv-loop μ-loop
 chunked-requires c κs = omega (arith, c .before .before .before .pre .fits, c .before .before .before .pre .most)
 
 loop-holds : tie.Need-loop-holds Inv-loop μ-loop
-loop-holds c = (walked-none, refl, refl, refl)
+loop-holds c = passed-none
 
 mul-row : tie.Need-mul-row Inv-loop μ-loop
 mul-row c =
@@ -67,10 +66,10 @@ pair-row-requires c κs =
     let v = at-loop .loop .inv in
     let n = at-chunked .chunked .ensures .1 in
     record {
-      target = omega (arith, row, p .target, p .fits, p .beyond, n, v .1, v .2);
-      left = omega (arith, row, p .left, v .1);
-      right = omega (arith, row, p .right, v .1);
-      room = omega (arith, p .room, p .fits, n, v .3);
+      target = omega (arith, row, p .target, p .fits, p .beyond, n, v .frame, v .spill);
+      left = omega (arith, row, p .left, v .frame);
+      right = omega (arith, row, p .right, v .frame);
+      room = omega (arith, p .room, p .fits, n, v .scratch);
     }
 
 add-y : tie.Need-add-y Inv-loop μ-loop
@@ -87,23 +86,23 @@ loop-again c =
     let q = at-pair-row .pair-row in
     let l = at-loop .loop in
     let v = l .inv in
-    (walked-more (v .0) (at-loop-test .loop-test .taken) (both-lengths (q .last .0) (q .last .1 .0) (l .frame) (l .spill) (q .kept .0) (q .kept .1 .0)) (q .ensures), q .kept .0 ∙ v .1, q .kept .1 .0 ∙ v .2, q .kept .1 .1 .0 ∙ v .3)
+    passed-more v (at-loop-test .loop-test .taken) (q .kept .0) (q .kept .1 .0) (q .kept .1 .1 .0) (q .ensures)
 
 same-length : tie.Need-same-length Inv-loop μ-loop
-same-length c = c .before .loop .inv .1
+same-length c = c .before .loop .inv .frame
 
 same-length-2 : tie.Need-same-length-2 Inv-loop μ-loop
-same-length-2 c = c .before .loop .inv .2
+same-length-2 c = c .before .loop .inv .spill
 
 same-length-3 : tie.Need-same-length-3 Inv-loop μ-loop
-same-length-3 c = c .before .loop .inv .3
+same-length-3 c = c .before .loop .inv .scratch
 
 returns : tie.Need-returns Inv-loop μ-loop
 unfolding pairPlane
 returns c =
     let a = c .before .before .before .before .before .before .args in
     let i = a .self in
-    walked-whole (c .before .loop .inv .0) (c .loop-test .left)
+    walked-whole (c .before .loop .inv .walk) (c .loop-test .left)
     ∙ ap (λ (n : ℕ). steps (λ y. pairRun (a .t + y * i .pitch) (a .l + y * i .pitch) (a .r + y * i .pitch) n) (i .height) (now (a .frame) ++ now (a .spill))) (c .before .before .chunked .ensures .0)
 
 pub pair-spec : {M : Type 1} → statement M
