@@ -1,8 +1,8 @@
 -- Demand 3 about the product's own calls. In the user's words:
 --     "Reading any word names one build exactly if some accepted record packs to it and all that do leave equal bytes, given the same plane, source pitch, layout and starting frame; it then tells the width, height, pel, levels, gpu, full, rc and lean they all have, and their down and up where document 01 says these matter. It answers "not a code" exactly if none packs to it. It answers that the halving or the upscale filter isn't told exactly if two such records, alike but for that one setting, leave different bytes for some plane, source pitch and layout, the same for both, in a frame of zeros; if both hold, halving is named."
 -- `Exact` of specs/Demands.antt says it sentence by sentence, and `demand-3` below that it holds of every answer that meets the contract of `read_word`.
--- First what the four calls promise, each from `Post`, what the checker itself reads of the call's `ensures`; then from the definitions to these promises; last `demand-3`, and that of two records behind a word either both can be built or none. Assumes nothing.
-use mathlib.Core.Path.{_≡_, refl, sym, ap, _∙_, subst}
+-- First what the four calls promise, each from `Post`, what the checker itself reads of the call's `ensures`; then from the definitions to these promises; last `demand-3`. Assumes nothing.
+use mathlib.Core.Path.{_≡_, sym, ap, _∙_, subst}
 use mathlib.Core.List.{List}
 use mathlib.Core.Bool.{false}
 use mathlib.Core.Logic.{_↔_}
@@ -29,7 +29,6 @@ use Rattle.builder.specs.Layout.{widthAt, writtenEnd, spillNeed, scratch
 use Rattle.builder.specs.Numbers.{badPitch, layoutNo, sourceNeed, lentNo, buildNo}
 use Rattle.builder.specs.Answers.{planeNo}
 use Rattle.builder.specs.Demands.{Given, layoutOf, SameBuild, Differ, withDown, withUp, HalvingDiffers, UpscaleDiffers, Exact, PacksTo, BuildPlane, Finished, leaves, Leaves}
-use Rattle.builder.proofs.Same.{builds-both}
 use Rattle.builder.proofs.Demanded.{then-none, refuse-none, reads-met}
 use Rattle.builder.proofs.build.build_plane.Reads as build-plane-reads
 
@@ -95,13 +94,10 @@ module _ (r : SuperOpts) (g : Given) (m : List ℕ) where
       }
 
 -- from one account of the records behind a word, and of what builds leave, to another
+same-by : {L M : SuperOpts → Given → List ℕ → Type 0} → ((r : SuperOpts) (g : Given) (m : List ℕ) → L r g m → M r g m) → ((r : SuperOpts) (g : Given) (m : List ℕ) → M r g m → L r g m) → (r s : SuperOpts) → SameBuild M r s → SameBuild L r s
+same-by to from r s h g m x y p = from s g m (h g m x y (to r g m p))
+
 module _ {B C : SuperOpts → Type 0} {L M : SuperOpts → Given → List ℕ → Type 0} (b : (r : SuperOpts) → B r → C r) (l : (r : SuperOpts) (g : Given) (m : List ℕ) → L r g m → M r g m) where
-  same-by : (r s : SuperOpts) → SameBuild M r s → SameBuild L r s
-  same-by r s h g m n x y p q = h g m n x y (l r g m p) (l s g n q)
-
-  all-by : ((r s : SuperOpts) → C r → C s → SameBuild M r s) → (r s : SuperOpts) → B r → B s → SameBuild L r s
-  all-by h r s p q = same-by r s (h r s (b r p) (b s q))
-
   differ-by : (r s : SuperOpts) → Differ L r s → Differ M r s
   differ-by r s d =
       record {
@@ -128,8 +124,8 @@ by-calls v =
     let from : (r : SuperOpts) → PacksTo v r → Packs v r = λ r. packs-to v r .1 in
     record {
       one = (
-        λ e. let t = d .one .0 e in ((t .0 .0, to (t .0 .0) (t .0 .1)), all-by from leaves-by (t .1)),
-        λ t. d .one .1 ((t .0 .0, from (t .0 .0) (t .0 .1)), all-by to finished-by (t .1)),
+        λ e. let t = d .one .0 e in ((t .0 .0, to (t .0 .0) (t .0 .1)), λ r s p q. same-by leaves-by finished-by r s (t .1 r s (from r p) (from s q))),
+        λ t. d .one .1 ((t .0 .0, from (t .0 .0) (t .0 .1)), λ r s p q. same-by finished-by leaves-by r s (t .1 r s (to r p) (to s q))),
       );
       tells = λ e r p. d .tells e r (from r p);
       none = (λ e r p. d .none .0 e r (from r p), λ h. d .none .1 (λ r p. h r (to r p)));
@@ -144,7 +140,3 @@ by-calls v =
 -- ---- demand 3: x .0 is the word that is read, t the answer
 pub demand-3 : (κs : Lfts 0) → Promises (read-word-reads.Post κs) (λ x t e. Exact (PacksTo (x .0)) Finished (told t))
 demand-3 κs x t e p = subst (Exact (PacksTo (x .0)) Finished) (sym (read-word-promise κs x t e p)) (by-calls (x .0))
-
--- of the records behind a word each can be built where one can
-pub both-finish : (v : ℕ) (r s : SuperOpts) → PacksTo v r → PacksTo v s → (g : Given) (m : List ℕ) → Finished r g m → Finished s g (leaves s g)
-both-finish v r s p q g m f = finished-by s g (leaves s g) (builds-both v r s (packs-to v r .1 p) (packs-to v s .1 q) g (leaves-by r g m f .0), refl)

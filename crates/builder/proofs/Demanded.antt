@@ -229,7 +229,7 @@ upscale-met v = (
 
 -- records that differ aren't one build
 not-same : (r s : SuperOpts) → Differ Leaves r s → SameBuild Leaves r s → ⊥
-not-same r s d same = d .unequal (same (d .at) (d .one) (d .other) (d .is-bytes) (zeros-bytes (d .at .frame) (d .zeros)) (d .first) (d .second))
+not-same r s d same = d .unequal (same (d .at) (d .one) (d .is-bytes) (zeros-bytes (d .at .frame) (d .zeros)) (d .first) .1 ∙ sym (d .second .1))
 
 one-back : (v : ℕ) → ((r : SuperOpts) × Packs v r) × ((r s : SuperOpts) → Packs v r → Packs v s → SameBuild Leaves r s) → readNo v ≡ 0
 one-back v t =

@@ -124,7 +124,7 @@ module _ (v : ℕ) (r : SuperOpts) (p : Packs v r) (g : Given) where
       (is-nat-pos u 0 (or-right (isNat (r .gpu) 0) (isNat u 0) m ok) ∙ sym (is-nat-pos (r .«scale_up») 0 (or-right (isNat (r .gpu) 0) (isNat (r .«scale_up») 0) m (fine r (p .good) .up)))))
       (and-off (upMatters r) (isNat (r .gpu) 0) (sym (told-up v r p) ∙ e))
 
--- ---- a word that names one build
+-- ---- the record that a word spells leaves what each record behind it leaves, where no filter is open
 abbrev fourOr : SuperOpts → ℤ
 fourOr r = cond (isNat (r .«scale_down») 4) (pos 4) (pos 0)
 
@@ -142,13 +142,6 @@ leaves-canon v e r p g =
     four-fits true = refl
     four-fits false = refl
 
-pub same-build : (v : ℕ) → readNo v ≡ 0 → (r s : SuperOpts) → Packs v r → Packs v s → SameBuild Leaves r s
-same-build v e r s p q g m n bs bf h k = h .1 ∙ sym (leaves-canon v e r p g) ∙ leaves-canon v e s q g ∙ sym (k .1)
-
--- "names one build exactly if ..", one way
-pub one-there : (v : ℕ) → readNo v ≡ 0 → ((r : SuperOpts) × Packs v r) × ((r s : SuperOpts) → Packs v r → Packs v s → SameBuild Leaves r s)
-one-there v e = ((candidate v, code-packs v (at-0 (read-case v) e .0)), same-build v e)
-
 -- ---- what packs to one word builds, or none does: an accepted record's number doesn't depend on its filters
 number-same : (r : SuperOpts) (d u : ℤ) (g : Given) → accepted r ≡ true → accepted (filtered r d u) ≡ true → (n len a b : ℕ) → buildNo (layoutOf (filtered r d u) g) n (g .sp) len a b ≡ buildNo (layoutOf r g) n (g .sp) len a b
 unfolding buildNo layoutNo lentNo
@@ -159,5 +152,13 @@ builds-canon v r p g =
     ap (λ (x : SuperOpts). let q = layoutOf x g in buildNo q (length (g .src)) (g .sp) (length (g .frame)) (spillNeed q) (scratchNeed q)) (packs-canon v r p)
     ∙ number-same r (fourOr r) (pos 0) g (p .good) (canon-accepted r (p .good)) (length (g .src)) (length (g .frame)) (spillNeed (layoutOf r g)) (scratchNeed (layoutOf r g))
 
-pub builds-both : (v : ℕ) (r s : SuperOpts) → Packs v r → Packs v s → (g : Given) → Builds r g → Builds s g
+builds-both : (v : ℕ) (r s : SuperOpts) → Packs v r → Packs v s → (g : Given) → Builds r g → Builds s g
 builds-both v r s p q g e = sym (builds-canon v s q g) ∙ builds-canon v r p g ∙ e
+
+-- ---- a word that names one build
+pub same-build : (v : ℕ) → readNo v ≡ 0 → (r s : SuperOpts) → Packs v r → Packs v s → SameBuild Leaves r s
+same-build v e r s p q g m bs bf h = (builds-both v r s p q g (h .0), h .1 ∙ sym (leaves-canon v e r p g) ∙ leaves-canon v e s q g)
+
+-- "names one build exactly if ..", one way
+pub one-there : (v : ℕ) → readNo v ≡ 0 → ((r : SuperOpts) × Packs v r) × ((r s : SuperOpts) → Packs v r → Packs v s → SameBuild Leaves r s)
+one-there v e = ((candidate v, code-packs v (at-0 (read-case v) e .0)), same-build v e)

@@ -14,8 +14,7 @@ use Rattle.settings.specs.declared.super_opts.SuperOpts.{SuperOpts}
 use Rattle.settings.specs.declared.super_opts.Packed.the-variants.{Word}
 use Rattle.settings.specs.declared.word.Description.{Description}
 use Rattle.settings.specs.Reading.{describe}
-use Rattle.settings.specs.Answers.{Answer, answer, tested, packed, packAnswer}
-use Rattle.settings.proofs.Accepted.{Returns}
+use Rattle.settings.specs.Answers.{Answer, answer, tested, packed, Returns, packAnswer}
 use Rattle.builder.specs.declared.layout.Layout.{Layout}
 use Rattle.builder.specs.Layout.{spillNeed, scratchNeed}
 use Rattle.builder.specs.Numbers.{buildNo}
@@ -40,9 +39,9 @@ abbrev pub layoutOf : SuperOpts → Given → Layout
 layoutOf r g = record { opts = r; «x_shift» = g .«x_shift»; «y_shift» = g .«y_shift»; pitch = g .pitch }
 
 -- ---- two records
--- "leave equal bytes, given the same plane, source pitch, layout and starting frame"
+-- "leave equal bytes, given the same plane, source pitch, layout and starting frame": what r leaves, s leaves
 abbrev pub SameBuild : (SuperOpts → Given → List ℕ → Type 0) → SuperOpts → SuperOpts → Type 0
-SameBuild Leaves r s = (g : Given) (m n : List ℕ) → bytes (g .src) ≡ true → bytes (g .frame) ≡ true → Leaves r g m → Leaves s g n → m ≡ n
+SameBuild Leaves r s = (g : Given) (m : List ℕ) → bytes (g .src) ≡ true → bytes (g .frame) ≡ true → Leaves r g m → Leaves s g m
 
 -- "different bytes for some plane, source pitch and layout, the same for both, in a frame of zeros"
 pub record Differ (Leaves : SuperOpts → Given → List ℕ → Type 0) (r s : SuperOpts) : Type 0 where

@@ -17,7 +17,7 @@ use Rattle.settings.specs.Limits.{mostSide, mostLevels}
 use Rattle.settings.specs.Numbers.{isNat, toNat, isI32, refuse, _then_}
 use Rattle.settings.specs.Sizes.{levelsOf}
 use Rattle.settings.specs.Check.{intOr, settled, isPel, isGpu, noFinest, badLean, isSide, settingsNo, pelOf, lumaW, lumaH, levelCount, accepted, recordNo, optI32, SettingsI32, RecordI32}
-use Rattle.settings.specs.Answers.{Answer, answer, complete, noRecord, checkAnswer}
+use Rattle.settings.specs.Answers.{Answer, answer, complete, noRecord, checkAnswer, Returns}
 use Rattle.settings.proofs.Tests.{and-left, and-right, or-cases, or-false-left, or-false-right}
 use Rattle.settings.proofs.Refusals.{then-first, then-rest, refuse-not}
 use Rattle.settings.proofs.Levels.{levels-small}
@@ -208,16 +208,6 @@ settled-fits s w h f fw fh few =
       width = fw;
       height = fh;
     }
-
--- settings and a size, all of them i32, for which the check returns r
-pub record Returns (r : SuperOpts) : Type 0 where
-  pub settings : Settings
-  pub width : ℤ
-  pub height : ℤ
-  pub settings-fit : SettingsI32 settings
-  pub width-fits : isI32 width ≡ true
-  pub height-fits : isI32 height ≡ true
-  pub answers : checkAnswer settings width height ≡ answer 0 r
 
 pub accepted-exact : (r : SuperOpts) → (RecordI32 r × (accepted r ≡ true)) ↔ Returns r
 accepted-exact r = (

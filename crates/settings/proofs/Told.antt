@@ -14,10 +14,10 @@ use Rattle.settings.specs.Numbers.{isNat, toNat, isI32, refuse, _then_}
 use Rattle.settings.specs.Check.{settingsNo, levelCount, accepted, RecordI32}
 use Rattle.settings.specs.Word.{wordOf, packNo}
 use Rattle.settings.specs.Reading.{isSet, candidate, upMatters, downMatters, isCode, readNo, tellIf, describe, Packs, halvingOf, upscaleOf, HalvingOpen, UpscaleOpen}
-use Rattle.settings.specs.Answers.{Answer, answer, packAnswer}
+use Rattle.settings.specs.Answers.{Answer, answer, packAnswer, Returns}
 use Rattle.settings.proofs.Tests.{and-left, and-right}
 use Rattle.settings.proofs.Integers.{yes-no}
-use Rattle.settings.proofs.Accepted.{is-nat-pos, Fine, fine, fine-accepted, sound, within, levels-most, pos-pel, pos-gpu, pos-side, pos-levels, Returns, accepted-exact}
+use Rattle.settings.proofs.Accepted.{is-nat-pos, Fine, fine, fine-accepted, sound, within, levels-most, pos-pel, pos-gpu, pos-side, pos-levels, accepted-exact}
 use Rattle.settings.proofs.Known.{given}
 use Rattle.settings.proofs.Words.{bit-back, not-not, small, word-height, word-width, word-pel, word-levels, word-other, word-lean, word-gpu, word-rc, word-part}
 

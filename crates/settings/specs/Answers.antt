@@ -1,6 +1,7 @@
 -- Document 01's number and value: of each call, and of each answer that is an enum.
 use Prim.Native.Nat.{ℕ}
-use mathlib.Core.Bool.{false, cond}
+use mathlib.Core.Path.{_≡_}
+use mathlib.Core.Bool.{true, false, cond}
 use lib.Dec.{eqb}
 use lib.IntN.{ℤ, pos}
 use Rattle.settings.specs.declared.refusal.Refusal.{Refusal}
@@ -19,7 +20,8 @@ use Rattle.settings.specs.declared.super_opts.Sized.the-variants.{Size, 
 use Rattle.settings.specs.declared.word.Description.{Description}
 use Rattle.settings.specs.declared.word.Told.{Told}
 use Rattle.settings.specs.declared.word.Told.the-variants.{Tells, Refused as ReadRefused}
-use Rattle.settings.specs.Check.{settled, settingsNo, recordNo, superHeight, superWidth}
+use Rattle.settings.specs.Numbers.{isI32}
+use Rattle.settings.specs.Check.{settled, settingsNo, recordNo, superHeight, superWidth, SettingsI32}
 use Rattle.settings.specs.Word.{packNo, wordOf}
 use Rattle.settings.specs.Reading.{candidate, readNo, describe}
 
@@ -76,6 +78,16 @@ noRecord =
 -- "A settings refusal gives a record of zeros"
 abbrev pub checkAnswer : Settings → ℤ → ℤ → Answer SuperOpts
 checkAnswer s w h = complete (settingsNo (settled s w h)) (settled s w h) noRecord
+
+-- "one this check can return for some settings and size": all of them i32
+pub record Returns (r : SuperOpts) : Type 0 where
+  pub settings : Settings
+  pub width : ℤ
+  pub height : ℤ
+  pub settings-fit : SettingsI32 settings
+  pub width-fits : isI32 width ≡ true
+  pub height-fits : isI32 height ≡ true
+  pub answers : checkAnswer settings width height ≡ answer 0 r
 
 -- "a packing refusal word 0"
 abbrev pub packAnswer : SuperOpts → Answer ℕ
