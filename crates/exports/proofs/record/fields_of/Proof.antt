@@ -1,0 +1,60 @@
+-- `fields_of` meets its contract. Assumes nothing.
+use lib.Dec.{lit<}
+use denote.Ref.{now}
+use borrow.Author.Needs.{sfits-of}
+use Rattle.settings.proofs.Integers.{same, is-by-bits}
+use Rattle.exports.specs.Numbers.{at}
+use borrow.Author.Needs.{needs}
+use Rattle.exports.proofs.record.fields_of.Statement.{statement}
+use Rattle.exports.proofs.record.fields_of.Tie as tie
+
+shared-slice-copy-out-t3 : tie.Need-shared-slice-copy-out-t3
+shared-slice-copy-out-t3 c = search needs
+
+shared-slice-copy-out-t5 : tie.Need-shared-slice-copy-out-t5
+shared-slice-copy-out-t5 c = search needs
+
+shared-slice-copy-out-t7 : tie.Need-shared-slice-copy-out-t7
+shared-slice-copy-out-t7 c = search needs
+
+shared-slice-copy-out-t9 : tie.Need-shared-slice-copy-out-t9
+shared-slice-copy-out-t9 c = search needs
+
+shared-slice-copy-out-t11 : tie.Need-shared-slice-copy-out-t11
+shared-slice-copy-out-t11 c = search needs
+
+shared-slice-copy-out-t14 : tie.Need-shared-slice-copy-out-t14
+shared-slice-copy-out-t14 c = search needs
+
+shared-slice-copy-out-t17 : tie.Need-shared-slice-copy-out-t17
+shared-slice-copy-out-t17 c = search needs
+
+shared-slice-copy-out-t20 : tie.Need-shared-slice-copy-out-t20
+shared-slice-copy-out-t20 c = search needs
+
+shared-slice-copy-out-t22 : tie.Need-shared-slice-copy-out-t22
+shared-slice-copy-out-t22 c = search needs
+
+shared-slice-copy-out-t24 : tie.Need-shared-slice-copy-out-t24
+shared-slice-copy-out-t24 c = search needs
+
+returns : tie.Need-returns
+returns c =
+    let l = now (c .before .before .before .before .before .before .before .before .before .before .args .fields) in
+    rw (same (at l 0) (sfits-of (c .before .before .before .before .before .before .before .before .before .t3 .given)), same (at l 1) (sfits-of (c .before .before .before .before .before .before .before .before .t5 .given)), same (at l 2) (sfits-of (c .before .before .before .before .before .before .before .t7 .given)), same (at l 3) (sfits-of (c .before .before .before .before .before .before .t9 .given)), same (at l 7) (sfits-of (c .before .before .t20 .given)), same (at l 8) (sfits-of (c .before .t22 .given)), same (at l 9) (sfits-of (c .t24 .given)), is-by-bits (at l 4) 1 (sfits-of (c .before .before .before .before .before .t11 .given)) (lit< tt), is-by-bits (at l 5) 1 (sfits-of (c .before .before .before .before .t14 .given)) (lit< tt), is-by-bits (at l 6) 1 (sfits-of (c .before .before .before .t17 .given)) (lit< tt))
+
+pub fields-of-spec : {M : Type 1} → statement M
+fields-of-spec =
+    tie.close
+    (tie.spec
+    shared-slice-copy-out-t3
+    shared-slice-copy-out-t5
+    shared-slice-copy-out-t7
+    shared-slice-copy-out-t9
+    shared-slice-copy-out-t11
+    shared-slice-copy-out-t14
+    shared-slice-copy-out-t17
+    shared-slice-copy-out-t20
+    shared-slice-copy-out-t22
+    shared-slice-copy-out-t24
+    returns)

@@ -1,0 +1,51 @@
+-- `is_record` meets its contract. Assumes nothing.
+use lib.ListN.{length}
+use denote.Ref.{now}
+use borrow.Author.Needs.{sfits-of}
+use borrow.Author.Tests.{eq-eqb, ne-eqb}
+use Rattle.settings.proofs.Integers.{same}
+use Rattle.exports.specs.Numbers.{at, isRecord}
+use borrow.Author.Needs.{needs}
+use Rattle.exports.proofs.record.is_record.Statement.{statement}
+use Rattle.exports.proofs.record.is_record.Tie as tie
+
+returns : tie.Need-returns
+unfolding isRecord
+returns c = rw (ne-eqb (length (now (c .before .args .fields))) 10 (c .if1 .taken))
+
+shared-slice-copy-out-is-flag : tie.Need-shared-slice-copy-out-is-flag
+shared-slice-copy-out-is-flag c = search needs
+
+is-flag-requires : tie.Need-is-flag-requires
+is-flag-requires c κs = search needs
+
+shared-slice-copy-out-is-flag-2 : tie.Need-shared-slice-copy-out-is-flag-2
+shared-slice-copy-out-is-flag-2 c = search needs
+
+is-flag-requires-2 : tie.Need-is-flag-requires-2
+is-flag-requires-2 c κs = search needs
+
+shared-slice-copy-out-is-flag-3 : tie.Need-shared-slice-copy-out-is-flag-3
+shared-slice-copy-out-is-flag-3 c = search needs
+
+is-flag-requires-3 : tie.Need-is-flag-requires-3
+is-flag-requires-3 c κs = search needs
+
+returns-2 : tie.Need-returns-2
+unfolding isRecord
+returns-2 c =
+    let l = now (c .before .before .before .before .before .before .before .args .fields) in
+    rw (c .is-flag3 .ensures, c .before .before .is-flag2 .ensures, c .before .before .before .before .is-flag .ensures, eq-eqb (length l) 10 (c .before .before .before .before .before .before .if1 .left), same (at l 4) (sfits-of (c .before .before .before .before .before .is-flag-arg .given)), same (at l 5) (sfits-of (c .before .before .before .is-flag-arg2 .given)), same (at l 6) (sfits-of (c .before .is-flag-arg3 .given)))
+
+pub is-record-spec : {M : Type 1} → statement M
+is-record-spec =
+    tie.close
+    (tie.spec
+    returns
+    shared-slice-copy-out-is-flag
+    is-flag-requires
+    shared-slice-copy-out-is-flag-2
+    is-flag-requires-2
+    shared-slice-copy-out-is-flag-3
+    is-flag-requires-3
+    returns-2)

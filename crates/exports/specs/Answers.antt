@@ -1,0 +1,56 @@
+-- The number of each call, and what it leaves in the slice that is lent for its answer. "The lowest number that applies is given, and none other"; "no refusal changes a lent byte".
+use Prim.Native.Nat.{ℕ}
+use mathlib.Core.Bool.{Bool, cond, _&&_}
+use mathlib.Core.List.{List, [], _∷_, _++_}
+use lib.Dec.{leb, ltb}
+use lib.IntN.{ℤ, pos}
+use lib.ListN.{length, drop}
+use Rattle.settings.specs.declared.super_opts.Settings.{Settings}
+use Rattle.settings.specs.declared.super_opts.SuperOpts.{SuperOpts}
+use Rattle.settings.specs.Check.{settled, settingsNo, recordNo, superHeight, superWidth}
+use Rattle.settings.specs.Word.{packNo, wordOf}
+use Rattle.settings.specs.Reading.{candidate, readNo, describe}
+use Rattle.settings.specs.Answers.{Answer, complete}
+use Rattle.builder.specs.declared.layout.Layout.{Layout}
+use Rattle.builder.specs.Layout.{levelsOf, regionOr, writtenEnd}
+use Rattle.builder.specs.Numbers.{layoutNo, rowNo}
+use Rattle.builder.specs.Answers.{columns, needsOf, runOf}
+use Rattle.exports.specs.Numbers.{numbersOf, toldNumbers, columnNumbers, needNumbers, runNumbers}
+
+-- values at the front, the rest as it was
+abbrev pub written : {A : Type 0} → List A → List A → List A
+written values lent = values ++ drop (length values) lent
+
+-- n, unless the slice is too short for the answer, document 02's 15, and no lower number applies
+abbrev pub lowest : ℕ → Bool → ℕ
+lowest n short = cond (leb 1 n && ltb n 15) n (cond short 15 n)
+
+-- a call whose number but for that is n, and that tells values
+abbrev pub tells : {A : Type 0} → ℕ → List A → List A → Answer (List A)
+tells n values lent = complete (lowest n (ltb (length lent) (length values))) (written values lent) lent
+
+-- ---- the calls
+abbrev pub checkTells : Settings → ℤ → ℤ → List ℤ → Answer (List ℤ)
+checkTells s w h = tells (settingsNo (settled s w h)) (numbersOf (settled s w h))
+
+abbrev pub packTells : SuperOpts → List ℕ → Answer (List ℕ)
+packTells r = tells (packNo r) (wordOf r ∷ [])
+
+abbrev pub readTells : ℕ → List ℤ → Answer (List ℤ)
+readTells v = tells (readNo v) (toldNumbers (describe (candidate v)))
+
+abbrev pub sizesTells : SuperOpts → List ℤ → Answer (List ℤ)
+sizesTells r = tells (recordNo r) (pos (superWidth r) ∷ pos (superHeight r) ∷ [])
+
+abbrev pub regionsTells : Layout → List ℕ → Answer (List ℕ)
+regionsTells q = tells (layoutNo q) (columnNumbers (columns (levelsOf q) (regionOr q)))
+
+abbrev pub endTells : Layout → List ℕ → Answer (List ℕ)
+endTells q = tells (layoutNo q) (writtenEnd q ∷ [])
+
+abbrev pub needsTells : Layout → List ℕ → Answer (List ℕ)
+needsTells q = tells (layoutNo q) (needNumbers (needsOf q))
+
+-- row y of plane k of level l, in a frame of len bytes
+abbrev pub rowTells : Layout → ℕ → ℕ → ℕ → ℕ → List ℕ → Answer (List ℕ)
+rowTells q len l k y = tells (rowNo q len l k y) (runNumbers (runOf q l k y))

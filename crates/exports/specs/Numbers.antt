@@ -1,0 +1,127 @@
+-- Numbers that a call takes or tells, and what they stand for.
+use Prim.Native.Nat.{ℕ, _/_, _%_, _^_}
+use mathlib.Core.Bool.{Bool, true, false, cond, not, _&&_, _||_}
+use mathlib.Core.List.{List, [], _∷_, _++_}
+use lib.Dec.{eqb}
+use lib.IntN.{ℤ, pos}
+use lib.ListN.{length, getD}
+use Rattle.settings.specs.declared.super_opts.OptInt.{OptInt}
+use Rattle.settings.specs.declared.super_opts.OptInt.the-variants.{Given as GivenInt, Absent as NoInt}
+use Rattle.settings.specs.declared.super_opts.OptBool.{OptBool}
+use Rattle.settings.specs.declared.super_opts.OptBool.the-variants.{Given as GivenBool, Absent as NoBool}
+use Rattle.settings.specs.declared.super_opts.Settings.{Settings}
+use Rattle.settings.specs.declared.super_opts.SuperOpts.{SuperOpts}
+use Rattle.settings.specs.declared.word.Description.{Description}
+use Rattle.settings.specs.Numbers.{isNat, bit}
+use Rattle.settings.specs.Check.{intOr}
+use Rattle.settings.specs.Answers.{noRecord}
+use Rattle.builder.specs.declared.layout.Layout.{Layout}
+use Rattle.builder.specs.declared.layout.Needs.{Needs}
+use Rattle.builder.specs.declared.rows.Run.{Run}
+use Rattle.builder.specs.Answers.{Columns}
+
+abbrev pub flag : Bool → ℤ
+flag b = pos (bit b)
+
+-- ---- settings: "Each setting is present or absent"; bit k of given says that the k-th is there
+abbrev pub isGiven : ℕ → ℕ → Bool
+isGiven given k = eqb (given / 2 ^ k % 2) 1
+
+abbrev pub intIf : Bool → ℤ → OptInt
+intIf true z = GivenInt z
+intIf false z = NoInt
+
+-- a flag is yes unless it is 0, as in C
+abbrev pub boolIf : Bool → ℤ → OptBool
+boolIf true z = GivenBool (not (isNat z 0))
+boolIf false z = NoBool
+
+abbrev pub settingsOf : ℕ → ℤ → ℤ → ℤ → ℤ → ℤ → ℤ → ℤ → Settings
+settingsOf given pel gpu down up full rc lean =
+    record {
+      pel = intIf (isGiven given 0) pel;
+      gpu = intIf (isGiven given 1) gpu;
+      down = intIf (isGiven given 2) down;
+      up = intIf (isGiven given 3) up;
+      full = boolIf (isGiven given 4) full;
+      rc = boolIf (isGiven given 5) rc;
+      lean = boolIf (isGiven given 6) lean;
+    }
+
+-- ---- a record: ten numbers, in the order of its fields
+abbrev pub numbersOf : SuperOpts → List ℤ
+numbersOf r =
+    r .pel
+    ∷ r .gpu
+    ∷ r .«scale_down»
+    ∷ r .«scale_up»
+    ∷ flag (r .full)
+    ∷ flag (r .rc)
+    ∷ flag (r .lean)
+    ∷ r .levels
+    ∷ r .width
+    ∷ r .height
+    ∷ []
+
+abbrev pub at : List ℤ → ℕ → ℤ
+at l i = getD l i (pos 0)
+
+abbrev pub isFlag : ℤ → Bool
+isFlag z = isNat z 0 || isNat z 1
+
+-- a record's numbers: ten, and each flag 0 or 1
+unfoldable pub isRecord : List ℤ → Bool
+isRecord l = eqb (length l) 10 && isFlag (at l 4) && isFlag (at l 5) && isFlag (at l 6)
+
+abbrev pub fieldsOf : List ℤ → SuperOpts
+fieldsOf l =
+    record {
+      pel = at l 0;
+      gpu = at l 1;
+      «scale_down» = at l 2;
+      «scale_up» = at l 3;
+      full = isNat (at l 4) 1;
+      rc = isNat (at l 5) 1;
+      lean = isNat (at l 6) 1;
+      levels = at l 7;
+      width = at l 8;
+      height = at l 9;
+    }
+
+-- the record of zeros where the numbers are none's: no call accepts it (`zeros-refused` of proofs/Records.antt)
+unfoldable pub recordOf : List ℤ → SuperOpts
+recordOf l = cond (isRecord l) (fieldsOf l) noRecord
+
+abbrev pub layoutOf : List ℤ → ℕ → ℕ → ℕ → Layout
+layoutOf l xs ys p = record { opts = recordOf l; «x_shift» = xs; «y_shift» = ys; pitch = p }
+
+-- ---- what a word tells: twelve numbers, of down and up whether they matter, then which
+abbrev pub isTold : OptInt → Bool
+isTold (GivenInt z) = true
+isTold NoInt = false
+
+abbrev pub toldNumbers : Description → List ℤ
+toldNumbers d =
+    d .width
+    ∷ d .height
+    ∷ d .pel
+    ∷ d .levels
+    ∷ d .gpu
+    ∷ flag (d .full)
+    ∷ flag (d .rc)
+    ∷ flag (d .lean)
+    ∷ flag (isTold (d .down))
+    ∷ intOr (d .down) (pos 0)
+    ∷ flag (isTold (d .up))
+    ∷ intOr (d .up) (pos 0)
+    ∷ []
+
+-- ---- regions, needs and places
+abbrev pub columnNumbers : Columns → List ℕ
+columnNumbers c = (c .count ∷ []) ++ c .offsets ++ c .widths ++ c .heights
+
+abbrev pub needNumbers : Needs → List ℕ
+needNumbers n = n .spill ∷ n .scratch ∷ []
+
+abbrev pub runNumbers : Run → List ℕ
+runNumbers r = r .offset ∷ r .length ∷ []

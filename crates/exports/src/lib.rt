@@ -1,0 +1,9 @@
+// The door for programs in C and Rust, over `settings` and `builder`: functions on numbers and slices. Each but `sill_prepare_alike` answers 0 or document 01's number; what it tells goes to the front of a slice that it is lent, and a refusal changes nothing.
+//     room        an answer put into a lent slice, and the number where that is too short
+//     record      numbers to a record and back
+//     words       `sill_check` .. `sill_super_sizes`: settings, records and words
+//     planes      `sill_level_regions` .. `sill_build_plane`: a plane of a frame
+pub mod planes;
+mod record;
+mod room;
+pub mod words;

@@ -1,0 +1,204 @@
+// Settings, records and words.
+// First the check, then a record's calls, then a word's; last the super sizes.
+ghost use mathlib.Core.Path.{_≡_};
+ghost use Prim.Native.Nat.{_/_, _%_, _≤_};
+ghost use lib.Dec.{eqb};
+ghost use lib.IntN.{pos};
+ghost use Rattle.settings.specs.Numbers.{bit};
+ghost use Rattle.settings.specs.Check.{intOr, recordNo};
+ghost use Rattle.settings.specs.Reading.{alike};
+ghost use Rattle.settings.specs.Answers.{answer};
+ghost use Rattle.exports.specs.Numbers.{flag, intIf, boolIf, settingsOf, recordOf, isTold, toldNumbers};
+ghost use Rattle.exports.specs.Answers.{checkTells, packTells, readTells, sizesTells};
+use crate::record::FIELDS;
+use crate::record::flag;
+use crate::record::numbers_of;
+use crate::record::record_of;
+use crate::room::lowest;
+use crate::room::put_numbers;
+use crate::room::put_word;
+use settings::refusal::Refusal;
+use settings::super_opts::Checked;
+use settings::super_opts::OptBool;
+use settings::super_opts::OptInt;
+use settings::super_opts::Packed;
+use settings::super_opts::Settings;
+use settings::super_opts::Sized;
+use settings::super_opts::SuperOpts;
+use settings::word::Description;
+use settings::word::Told;
+use settings::word::prepare_alike;
+use settings::word::read_word;
+
+// How many numbers a word tells.
+const TOLD: usize = 12;
+
+fn is_given(given: u32, place: u32) -> bool
+    requires { ⌜ 1 ≤ place ⌝ }
+    ensures { λ r. ⌜ r ≡ eqb (given / place % 2) 1 ⌝ }
+{
+    given / place % 2 == 1
+}
+
+fn int_if(given: bool, z: i32) -> OptInt
+    ensures { λ r. ⌜ r ≡ intIf given z ⌝ }
+{
+    if given {
+        return OptInt::Given(z);
+    }
+    OptInt::Absent
+}
+
+fn bool_if(given: bool, z: i32) -> OptBool
+    ensures { λ r. ⌜ r ≡ boolIf given z ⌝ }
+{
+    if given {
+        return OptBool::Given(z != 0);
+    }
+    OptBool::Absent
+}
+
+fn settings_of(
+    given: u32,
+    pel: i32,
+    gpu: i32,
+    down: i32,
+    up: i32,
+    full: i32,
+    rc: i32,
+    lean: i32,
+) -> Settings
+    ensures { λ r. ⌜ r ≡ settingsOf given pel gpu down up full rc lean ⌝ }
+{
+    Settings {
+        pel: int_if(is_given(given, 1), pel),
+        gpu: int_if(is_given(given, 2), gpu),
+        down: int_if(is_given(given, 4), down),
+        up: int_if(is_given(given, 8), up),
+        full: bool_if(is_given(given, 16), full),
+        rc: bool_if(is_given(given, 32), rc),
+        lean: bool_if(is_given(given, 64), lean),
+    }
+}
+
+// Bit k of given says that the k-th of the seven settings is there. Tells the record's numbers. Refusals 1 to 5, 15.
+#[no_mangle]
+pub extern "C" fn sill_check(
+    given: u32,
+    pel: i32,
+    gpu: i32,
+    down: i32,
+    up: i32,
+    full: i32,
+    rc: i32,
+    lean: i32,
+    width: i32,
+    height: i32,
+    fields: &mut [i32],
+) -> u32
+    ensures { λ r. ⌜ answer r (now (fields .exit)) ≡ checkTells (settingsOf given pel gpu down up full rc lean) width height (now (fields .entry)) ⌝ }
+{
+    let opt = settings_of(given, pel, gpu, down, up, full, rc, lean);
+    match SuperOpts::from_opt(opt, width, height) {
+        Checked::Accepted(opts) => put_numbers(fields, &numbers_of(opts)),
+        Checked::Refused(f) => lowest(f, fields.len(), FIELDS),
+    }
+}
+
+// Refusal 6.
+#[no_mangle]
+pub extern "C" fn sill_accepted(fields: &[i32]) -> u32
+    ensures { λ r. ⌜ r ≡ recordNo (recordOf (now (fields .entry))) ⌝ }
+{
+    let opts = record_of(fields);
+    if opts.accepted() {
+        return 0;
+    }
+    Refusal::NoRecord.number()
+}
+
+// Tells the word. Refusals 6, 14, 15.
+#[no_mangle]
+pub extern "C" fn sill_pack_data(fields: &[i32], word: &mut [u64]) -> u32
+    ensures { λ r. ⌜ answer r (now (word .exit)) ≡ packTells (recordOf (now (fields .entry))) (now (word .entry)) ⌝ }
+{
+    let opts = record_of(fields);
+    match opts.pack_data() {
+        Packed::Word(w) => put_word(word, w),
+        Packed::Refused(f) => lowest(f, word.len(), 1),
+    }
+}
+
+fn is_told(z: OptInt) -> bool
+    ensures { λ r. ⌜ r ≡ isTold z ⌝ }
+{
+    match z {
+        OptInt::Given(_) => true,
+        OptInt::Absent => false,
+    }
+}
+
+fn told_or_0(z: OptInt) -> i32
+    ensures { λ r. ⌜ r ≡ intOr z (pos 0) ⌝ }
+{
+    match z {
+        OptInt::Given(z) => z,
+        OptInt::Absent => 0,
+    }
+}
+
+fn told_numbers(d: Description) -> [i32; TOLD]
+    ensures { λ r. ⌜ r ≡ toldNumbers d ⌝ }
+{
+    let down = d.down;
+    let up = d.up;
+    [
+        d.width,
+        d.height,
+        d.pel,
+        d.levels,
+        d.gpu,
+        flag(d.full),
+        flag(d.rc),
+        flag(d.lean),
+        flag(is_told(down)),
+        told_or_0(down),
+        flag(is_told(up)),
+        told_or_0(up),
+    ]
+}
+
+// Tells width, height, pel, levels, gpu, full, rc, lean, and of down and up whether they matter and which they are. Refusals 15, 20 to 22.
+#[no_mangle]
+pub extern "C" fn sill_read_word(word: u64, told: &mut [i32]) -> u32
+    ensures { λ r. ⌜ answer r (now (told .exit)) ≡ readTells word (now (told .entry)) ⌝ }
+{
+    match read_word(word) {
+        Told::Tells(d) => put_numbers(told, &told_numbers(d)),
+        Told::Refused(f) => lowest(f, told.len(), TOLD),
+    }
+}
+
+// 1 if the words stand for one preparation, else 0.
+#[no_mangle]
+pub extern "C" fn sill_prepare_alike(a: u64, b: u64) -> u32
+    ensures { λ r. ⌜ r ≡ bit (alike a b) ⌝ }
+{
+    prepare_alike(a, b) as u32
+}
+
+// Tells the super width, then the super height. Refusals 6, 15.
+#[no_mangle]
+pub extern "C" fn sill_super_sizes(fields: &[i32], sizes: &mut [i32]) -> u32
+    ensures { λ r. ⌜ answer r (now (sizes .exit)) ≡ sizesTells (recordOf (now (fields .entry))) (now (sizes .entry)) ⌝ }
+{
+    let opts = record_of(fields);
+    let high = opts.super_height();
+    match opts.super_width() {
+        Sized::Size(width) => match high {
+            Sized::Size(height) => put_numbers(sizes, &[width, height]),
+            Sized::Refused(f) => lowest(f, sizes.len(), 2),
+        },
+        Sized::Refused(f) => lowest(f, sizes.len(), 2),
+    }
+}
