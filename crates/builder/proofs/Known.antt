@@ -1,10 +1,14 @@
--- An answer is known by its number and value. Assumes nothing.
+-- An answer is known by its number and value; its columns have an entry for each level that there can be. Assumes nothing.
 use mathlib.Core.Path.{_≡_, ap}
 use mathlib.Core.List.{List}
 use Prim.Native.Nat.{ℕ}
+use lib.ListN.{length}
 use Rattle.settings.specs.declared.refusal.Tested.{Tested}
+use Rattle.settings.specs.Limits.{mostLevels}
 use Rattle.settings.specs.Answers.{Answer, answer, number, tested}
 use Rattle.settings.proofs.Known.{known-by, from, value-back, refusal-back, tested-known}
+use Rattle.filters.proofs.Tables.{tab-length}
+use Rattle.builder.specs.declared.layout.Region.{Region}
 use Rattle.builder.specs.declared.layout.Laid.{Laid}
 use Rattle.builder.specs.declared.layout.Ended.{Ended}
 use Rattle.builder.specs.declared.layout.Ended.the-variants.{End, Refused as EndRefused}
@@ -12,7 +16,7 @@ use Rattle.builder.specs.declared.layout.Needed.{Needed}
 use Rattle.builder.specs.declared.layout.Needed.the-variants.{Needs as Needing, Refused as NeedsRefused}
 use Rattle.builder.specs.declared.rows.Placed.{Placed}
 use Rattle.builder.specs.declared.rows.Placed.the-variants.{At, Refused as PlaceRefused}
-use Rattle.builder.specs.Answers.{Columns, laid, ended, needed, noNeeds, placed, noRun}
+use Rattle.builder.specs.Answers.{Columns, columns, laid, ended, needed, noNeeds, placed, noRun}
 
 ended-back : (a : Ended) → from End EndRefused (ended a) ≡ a
 ended-back (End n) = value-back End EndRefused n
@@ -34,6 +38,15 @@ placed-back (PlaceRefused f) = refusal-back At PlaceRefused f noRun
 
 pub placed-known : (a b : Placed) → placed a ≡ placed b → a ≡ b
 placed-known = known-by placed (from At PlaceRefused) placed-back
+
+-- ---- regions in columns
+pub record Full (c : Columns) : Type 0 where
+  pub offsets : length (c .offsets) ≡ mostLevels
+  pub widths : length (c .widths) ≡ mostLevels
+  pub heights : length (c .heights) ≡ mostLevels
+
+pub columns-full : (n : ℕ) (at : ℕ → Region) → Full (columns n at)
+columns-full n at = record { offsets = tab-length (λ l. at l .offset) mostLevels; widths = tab-length (λ l. at l .width) mostLevels; heights = tab-length (λ l. at l .height) mostLevels }
 
 by-columns : (t u : Tested) (m n : ℕ) (o p w x h g : List ℕ) → t ≡ u → m ≡ n → o ≡ p → w ≡ x → h ≡ g → _≡_ {A = Laid} (record { tested = t; count = m; offsets = o; widths = w; heights = h }) (record { tested = u; count = n; offsets = p; widths = x; heights = g })
 by-columns t u m n o p w x h g a b c d e = rw (a, b, c, d, e)
