@@ -48,7 +48,7 @@ settingsOf given pel gpu down up full rc lean =
       lean = boolIf (isGiven given 6) lean;
     }
 
--- ---- a record: ten numbers, in the order of its fields
+-- ---- a record: ten numbers, in the order of its fields; they are taken as they are told (`numbers-back` of proofs/Records.antt)
 abbrev pub numbersOf : SuperOpts → List ℤ
 numbersOf r =
     r .pel
@@ -88,7 +88,7 @@ fieldsOf l =
       height = at l 9;
     }
 
--- the record of zeros where the numbers are none's: no call accepts it (`zeros-refused` of proofs/Records.antt)
+-- the record of zeros where the numbers are none's: every call refuses it by 6 (`no-record-refused` of proofs/Records.antt)
 unfoldable pub recordOf : List ℤ → SuperOpts
 recordOf l = cond (isRecord l) (fieldsOf l) noRecord
 
