@@ -1,4 +1,4 @@
-// The door for programs in C and Rust, over `settings` and `builder`: functions on numbers and slices. Each but `sill_prepare_alike` answers 0 or document 01's number; what it tells goes to the front of a slice that it is lent, and a refusal changes nothing.
+// The door for programs in C and Rust, over `settings` and `builder`: functions on numbers and slices. Each but `sill_prepare_alike` answers 0 or the number of a refusal; what it tells goes to the front of a slice that it is lent, and a refusal changes nothing. `fields` are the ten numbers of a record.
 //     room        an answer put into a lent slice, and the number where that is too short
 //     record      numbers to a record and back
 //     words       `sill_check` .. `sill_super_sizes`: settings, records and words

@@ -8,12 +8,19 @@ ghost use lib.ListN.{length, take, drop};
 ghost use Rattle.settings.specs.Limits.{mostLevels};
 ghost use Rattle.settings.specs.Answers.{answer, number};
 ghost use Rattle.exports.specs.Answers.{lowest, tells};
+use settings::limits::MOST_LEVELS;
 use settings::refusal::Refusal;
 
 const TOO_SHORT: u32 = 15;
 
-// A count, and an offset, a width and a height for each level.
-pub const COLUMNS: usize = 40;
+// Where the offsets, widths and heights of a layout's regions begin, after their count, and how many numbers these are.
+const OFFSETS: usize = 1;
+
+const WIDTHS: usize = OFFSETS + MOST_LEVELS;
+
+const HEIGHTS: usize = WIDTHS + MOST_LEVELS;
+
+pub const COLUMNS: usize = HEIGHTS + MOST_LEVELS;
 
 // The number where a call refuses by f, its answer has need numbers and len are lent for it.
 pub fn lowest(f: Refusal, len: usize, need: usize) -> u32
@@ -85,8 +92,8 @@ pub fn put_columns(
         return TOO_SHORT;
     }
     put_at(out, 0, &[count]);
-    put_at(out, 1, offsets);
-    put_at(out, 14, widths);
-    put_at(out, 27, heights);
+    put_at(out, OFFSETS, offsets);
+    put_at(out, WIDTHS, widths);
+    put_at(out, HEIGHTS, heights);
     0
 }
