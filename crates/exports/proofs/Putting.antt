@@ -4,9 +4,9 @@ use mathlib.Core.List.{List, [], _∷_, _++_}
 use Prim.Native.Nat.{ℕ, _+_, _≤_, _<_}
 use native.Mathlib.Nat.{zero-add}
 use native.Mathlib.Omega.{arith}
-use borrow.Author.Tests.{lt-ltb, le-ltb}
 use lib.ListN.{length, take, drop, set, length-append}
 use lib.Seq.{take-at, drop-append-add, drop-drop}
+use borrow.Author.Tests.{lt-ltb, le-ltb}
 use Rattle.settings.specs.Answers.{answer}
 use Rattle.exports.specs.Answers.{tells}
 

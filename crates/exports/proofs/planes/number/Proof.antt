@@ -1,7 +1,7 @@
 -- `number` meets its contract. Assumes nothing.
 use mathlib.Core.Path.{sym, ap, _∙_}
-use Rattle.settings.specs.Answers.{tested}
 use borrow.Author.Needs.{needs}
+use Rattle.settings.specs.Answers.{tested}
 use Rattle.exports.proofs.planes.number.Statement.{statement}
 use Rattle.exports.proofs.planes.number.Tie as tie
 

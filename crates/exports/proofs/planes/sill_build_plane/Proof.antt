@@ -2,10 +2,10 @@
 use mathlib.Core.Path.{ap, _∙_}
 use Prim.Native.Nat.{ℕ}
 use denote.Ref.{now}
+use borrow.Author.Needs.{needs}
 use Rattle.settings.specs.Answers.{answer}
 use Rattle.builder.specs.declared.layout.Layout.{Layout}
 use Rattle.builder.specs.Answers.{planeNo, buildAnswer, lentAfter}
-use borrow.Author.Needs.{needs}
 use Rattle.exports.proofs.planes.sill_build_plane.Statement.{statement}
 use Rattle.exports.proofs.planes.sill_build_plane.Tie as tie
 

@@ -2,6 +2,7 @@
 use mathlib.Core.Path.{_≡_, refl, sym, ap, _∙_}
 use lib.ListN.{length}
 use denote.Ref.{now}
+use borrow.Author.Needs.{needs}
 use Rattle.settings.specs.declared.refusal.Tested.{Tested}
 use Rattle.settings.specs.Answers.{answer, tested}
 use Rattle.builder.specs.declared.layout.Layout.{Layout}
@@ -13,7 +14,6 @@ use Rattle.exports.specs.Numbers.{columnNumbers}
 use Rattle.exports.specs.Answers.{regionsTells}
 use Rattle.exports.proofs.Telling.{number-of, tell-refused, tell-given}
 use Rattle.exports.proofs.Putting.{columns-long}
-use borrow.Author.Needs.{needs}
 use Rattle.exports.proofs.planes.sill_level_regions.Statement.{statement}
 use Rattle.exports.proofs.planes.sill_level_regions.Tie as tie
 

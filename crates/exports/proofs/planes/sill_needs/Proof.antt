@@ -1,12 +1,12 @@
 -- `sill_needs` meets its contract. Assumes nothing.
 use mathlib.Core.Path.{refl, sym, ap, _∙_}
 use denote.Ref.{now}
+use borrow.Author.Needs.{needs}
 use Rattle.builder.specs.declared.layout.Layout.{Layout}
 use Rattle.builder.specs.Answers.{needed, needsOf, noNeeds}
 use Rattle.exports.specs.Numbers.{needNumbers}
 use Rattle.exports.specs.Answers.{needsTells}
 use Rattle.exports.proofs.Telling.{number-of, tell-refused, tell-given}
-use borrow.Author.Needs.{needs}
 use Rattle.exports.proofs.planes.sill_needs.Statement.{statement}
 use Rattle.exports.proofs.planes.sill_needs.Tie as tie
 

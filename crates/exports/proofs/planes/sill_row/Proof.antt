@@ -1,12 +1,12 @@
 -- `sill_row` meets its contract. Assumes nothing.
 use mathlib.Core.Path.{refl, sym, ap, _∙_}
 use denote.Ref.{now}
+use borrow.Author.Needs.{needs}
 use Rattle.builder.specs.declared.layout.Layout.{Layout}
 use Rattle.builder.specs.Answers.{placed, runOf, noRun}
 use Rattle.exports.specs.Numbers.{runNumbers}
 use Rattle.exports.specs.Answers.{rowTells}
 use Rattle.exports.proofs.Telling.{number-of, tell-refused, tell-given}
-use borrow.Author.Needs.{needs}
 use Rattle.exports.proofs.planes.sill_row.Statement.{statement}
 use Rattle.exports.proofs.planes.sill_row.Tie as tie
 

@@ -3,12 +3,12 @@ use mathlib.Core.Path.{refl, sym, ap, _∙_}
 use mathlib.Core.List.{[], _∷_}
 use Prim.Native.Nat.{ℕ}
 use denote.Ref.{now}
+use borrow.Author.Needs.{needs}
 use Rattle.builder.specs.declared.layout.Layout.{Layout}
 use Rattle.builder.specs.Layout.{writtenEnd}
 use Rattle.builder.specs.Answers.{ended}
 use Rattle.exports.specs.Answers.{endTells}
 use Rattle.exports.proofs.Telling.{number-of, tell-refused, tell-given}
-use borrow.Author.Needs.{needs}
 use Rattle.exports.proofs.planes.sill_written_end.Statement.{statement}
 use Rattle.exports.proofs.planes.sill_written_end.Tie as tie
 

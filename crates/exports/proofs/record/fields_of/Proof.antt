@@ -2,9 +2,9 @@
 use lib.Dec.{lit<}
 use denote.Ref.{now}
 use borrow.Author.Needs.{sfits-of}
+use borrow.Author.Needs.{needs}
 use Rattle.settings.proofs.Integers.{same, is-by-bits}
 use Rattle.exports.specs.Numbers.{at}
-use borrow.Author.Needs.{needs}
 use Rattle.exports.proofs.record.fields_of.Statement.{statement}
 use Rattle.exports.proofs.record.fields_of.Tie as tie
 
@@ -40,8 +40,18 @@ shared-slice-copy-out-t24 c = search needs
 
 returns : tie.Need-returns
 returns c =
-    let l = now (c .before .before .before .before .before .before .before .before .before .before .args .fields) in
-    rw (same (at l 0) (sfits-of (c .before .before .before .before .before .before .before .before .before .t3 .given)), same (at l 1) (sfits-of (c .before .before .before .before .before .before .before .before .t5 .given)), same (at l 2) (sfits-of (c .before .before .before .before .before .before .before .t7 .given)), same (at l 3) (sfits-of (c .before .before .before .before .before .before .t9 .given)), same (at l 7) (sfits-of (c .before .before .t20 .given)), same (at l 8) (sfits-of (c .before .t22 .given)), same (at l 9) (sfits-of (c .t24 .given)), is-by-bits (at l 4) 1 (sfits-of (c .before .before .before .before .before .t11 .given)) (lit< tt), is-by-bits (at l 5) 1 (sfits-of (c .before .before .before .before .t14 .given)) (lit< tt), is-by-bits (at l 6) 1 (sfits-of (c .before .before .before .t17 .given)) (lit< tt))
+    let width = c .before in
+    let levels = width .before in
+    let lean = levels .before in
+    let rc = lean .before in
+    let full = rc .before in
+    let up = full .before in
+    let down = up .before in
+    let gpu = down .before in
+    let pel = gpu .before in
+    let l = now (pel .before .args .fields) in
+    rw (same (at l 0) (sfits-of (pel .t3 .given)), same (at l 1) (sfits-of (gpu .t5 .given)), same (at l 2) (sfits-of (down .t7 .given)), same (at l 3) (sfits-of (up .t9 .given)), same (at l 7) (sfits-of (levels .t20 .given)), same (at l 8) (sfits-of (width .t22 .given)), same (at l 9) (sfits-of (c .t24 .given)))
+    (rw (is-by-bits (at l 4) 1 (sfits-of (full .t11 .given)) (lit< tt), is-by-bits (at l 5) 1 (sfits-of (rc .t14 .given)) (lit< tt), is-by-bits (at l 6) 1 (sfits-of (lean .t17 .given)) (lit< tt)))
 
 pub fields-of-spec : {M : Type 1} → statement M
 fields-of-spec =

@@ -3,8 +3,8 @@ use mathlib.Core.Path.{_≡_, refl}
 use mathlib.Core.Bool.{Bool, true, false}
 use mir.Syntax.{w32}
 use mir.Val.{boolByte, toZ}
-use Rattle.exports.specs.Numbers.{flag}
 use borrow.Author.Needs.{needs}
+use Rattle.exports.specs.Numbers.{flag}
 use Rattle.exports.proofs.record.flag.Statement.{statement}
 use Rattle.exports.proofs.record.flag.Tie as tie
 

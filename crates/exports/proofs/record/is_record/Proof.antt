@@ -1,11 +1,11 @@
 -- `is_record` meets its contract. Assumes nothing.
 use lib.ListN.{length}
 use denote.Ref.{now}
-use borrow.Author.Needs.{sfits-of}
 use borrow.Author.Tests.{eq-eqb, ne-eqb}
+use borrow.Author.Needs.{sfits-of}
+use borrow.Author.Needs.{needs}
 use Rattle.settings.proofs.Integers.{same}
 use Rattle.exports.specs.Numbers.{at, isRecord}
-use borrow.Author.Needs.{needs}
 use Rattle.exports.proofs.record.is_record.Statement.{statement}
 use Rattle.exports.proofs.record.is_record.Tie as tie
 
@@ -34,8 +34,11 @@ is-flag-requires-3 c κs = search needs
 returns-2 : tie.Need-returns-2
 unfolding isRecord
 returns-2 c =
-    let l = now (c .before .before .before .before .before .before .before .args .fields) in
-    rw (c .is-flag3 .ensures, c .before .before .is-flag2 .ensures, c .before .before .before .before .is-flag .ensures, eq-eqb (length l) 10 (c .before .before .before .before .before .before .if1 .left), same (at l 4) (sfits-of (c .before .before .before .before .before .is-flag-arg .given)), same (at l 5) (sfits-of (c .before .before .before .is-flag-arg2 .given)), same (at l 6) (sfits-of (c .before .is-flag-arg3 .given)))
+    let rc = c .before .before in
+    let full = rc .before .before in
+    let start = full .before .before in
+    let l = now (start .before .args .fields) in
+    rw (c .is-flag3 .ensures, rc .is-flag2 .ensures, full .is-flag .ensures, eq-eqb (length l) 10 (start .if1 .left), same (at l 4) (sfits-of (full .before .is-flag-arg .given)), same (at l 5) (sfits-of (rc .before .is-flag-arg2 .given)), same (at l 6) (sfits-of (c .before .is-flag-arg3 .given)))
 
 pub is-record-spec : {M : Type 1} → statement M
 is-record-spec =

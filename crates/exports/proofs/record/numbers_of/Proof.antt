@@ -1,7 +1,7 @@
 -- `numbers_of` meets its contract. Assumes nothing.
+use borrow.Author.Needs.{needs}
 use Rattle.settings.proofs.Integers.{same}
 use Rattle.settings.proofs.Fields.{FieldsFit}
-use borrow.Author.Needs.{needs}
 use Rattle.exports.proofs.record.numbers_of.Statement.{statement}
 use Rattle.exports.proofs.record.numbers_of.Tie as tie
 

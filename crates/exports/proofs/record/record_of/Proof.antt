@@ -2,8 +2,8 @@
 use mathlib.Core.Path.{sym, _∙_}
 use denote.Ref.{now}
 use borrow.Author.Tests.{not-true, not-false}
-use Rattle.exports.proofs.Records.{no-record-of, record-fields, record-long}
 use borrow.Author.Needs.{needs}
+use Rattle.exports.proofs.Records.{no-record-of, record-fields, record-long}
 use Rattle.exports.proofs.record.record_of.Statement.{statement}
 use Rattle.exports.proofs.record.record_of.Tie as tie
 

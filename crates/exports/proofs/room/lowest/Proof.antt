@@ -1,7 +1,7 @@
 -- `lowest` meets its contract. Assumes nothing.
 use lib.Dec.{ltb}
-use Rattle.exports.proofs.Telling.{lowest-low, lowest-short, lowest-other}
 use borrow.Author.Needs.{needs}
+use Rattle.exports.proofs.Telling.{lowest-low, lowest-short, lowest-other}
 use Rattle.exports.proofs.room.lowest.Statement.{statement}
 use Rattle.exports.proofs.room.lowest.Tie as tie
 

@@ -1,8 +1,8 @@
 -- `put_columns` meets its contract. Assumes nothing.
 use mathlib.Core.List.{[], _∷_, _++_}
 use denote.Ref.{now}
-use Rattle.exports.proofs.Putting.{put-short, put-fits, columns-long, columns-put}
 use borrow.Author.Needs.{needs}
+use Rattle.exports.proofs.Putting.{put-short, put-fits, columns-long, columns-put}
 use Rattle.exports.proofs.room.put_columns.Statement.{statement}
 use Rattle.exports.proofs.room.put_columns.Tie as tie
 

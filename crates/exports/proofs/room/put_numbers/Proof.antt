@@ -1,14 +1,14 @@
 -- `put_numbers` meets its contract. Assumes nothing.
-use Rattle.exports.proofs.Putting.{put-short, put-fits, from-start}
-use mir.Facts.{toZ-ofZ}
-use borrow.Author.Needs.{sfits-of}
-use native.Mathlib.Nat.{zero-add}
-use lib.IntN.{pos}
-use denote.Ref.{now}
-use Rattle.exports.proofs.Pasting.{Pasted, pasted-none, pasted-more, pasted-whole}
 use Prim.Native.Nat.{_-_}
+use native.Mathlib.Nat.{zero-add}
 use native.Mathlib.Omega.{arith}
+use lib.IntN.{pos}
 use lib.ListN.{length}
+use mir.Facts.{toZ-ofZ}
+use denote.Ref.{now}
+use borrow.Author.Needs.{sfits-of}
+use Rattle.exports.proofs.Putting.{put-short, put-fits, from-start}
+use Rattle.exports.proofs.Pasting.{Pasted, pasted-none, pasted-more, pasted-whole}
 use Rattle.exports.proofs.room.put_numbers.Statement.{statement}
 use Rattle.exports.proofs.room.put_numbers.Tie as tie
 

@@ -1,8 +1,8 @@
 -- `put_word` meets its contract. Assumes nothing.
 use mathlib.Core.List.{[], _∷_}
 use denote.Ref.{now}
-use Rattle.exports.proofs.Putting.{put-short, put-fits, set-first}
 use borrow.Author.Needs.{needs}
+use Rattle.exports.proofs.Putting.{put-short, put-fits, set-first}
 use Rattle.exports.proofs.room.put_word.Statement.{statement}
 use Rattle.exports.proofs.room.put_word.Tie as tie
 

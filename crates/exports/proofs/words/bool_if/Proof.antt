@@ -1,7 +1,7 @@
 -- `bool_if` meets its contract. Assumes nothing.
 use lib.Dec.{lit<}
-use Rattle.settings.proofs.Integers.{is-by-bits}
 use borrow.Author.Needs.{needs}
+use Rattle.settings.proofs.Integers.{is-by-bits}
 use Rattle.exports.proofs.words.bool_if.Statement.{statement}
 use Rattle.exports.proofs.words.bool_if.Tie as tie
 

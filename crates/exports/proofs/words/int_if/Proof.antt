@@ -1,6 +1,6 @@
 -- `int_if` meets its contract. Assumes nothing.
-use Rattle.settings.proofs.Integers.{same}
 use borrow.Author.Needs.{needs}
+use Rattle.settings.proofs.Integers.{same}
 use Rattle.exports.proofs.words.int_if.Statement.{statement}
 use Rattle.exports.proofs.words.int_if.Tie as tie
 

@@ -1,6 +1,6 @@
 -- `settings_of` meets its contract. Assumes nothing.
-use Rattle.settings.proofs.Integers.{same}
 use borrow.Author.Needs.{needs}
+use Rattle.settings.proofs.Integers.{same}
 use Rattle.exports.proofs.words.settings_of.Statement.{statement}
 use Rattle.exports.proofs.words.settings_of.Tie as tie
 
@@ -48,9 +48,16 @@ bool-if-requires-3 c κs = search needs
 
 returns : tie.Need-returns
 returns c =
-    let a = c .before .before .before .before .before .before .before .before .before .before .before .before .before .before .args in
-    let fit = c .before .before .before .before .before .before .before .before .before .before .before .before .before .before .fits in
-    rw (c .bool-if3 .ensures, c .before .is-given7 .ensures, c .before .before .bool-if2 .ensures, c .before .before .before .is-given6 .ensures, c .before .before .before .before .bool-if .ensures, c .before .before .before .before .before .is-given5 .ensures, c .before .before .before .before .before .before .int-if4 .ensures, c .before .before .before .before .before .before .before .is-given4 .ensures, c .before .before .before .before .before .before .before .before .int-if3 .ensures, c .before .before .before .before .before .before .before .before .before .is-given3 .ensures, c .before .before .before .before .before .before .before .before .before .before .int-if2 .ensures, c .before .before .before .before .before .before .before .before .before .before .before .is-given2 .ensures, c .before .before .before .before .before .before .before .before .before .before .before .before .int-if .ensures, c .before .before .before .before .before .before .before .before .before .before .before .before .before .is-given .ensures)
+    let rc = c .before .before in
+    let full = rc .before .before in
+    let up = full .before .before in
+    let down = up .before .before in
+    let gpu = down .before .before in
+    let pel = gpu .before .before in
+    let start = pel .before .before in
+    let a = start .args in
+    let fit = start .fits in
+    rw (c .bool-if3 .ensures, c .before .is-given7 .ensures, rc .bool-if2 .ensures, rc .before .is-given6 .ensures, full .bool-if .ensures, full .before .is-given5 .ensures, up .int-if4 .ensures, up .before .is-given4 .ensures, down .int-if3 .ensures, down .before .is-given3 .ensures, gpu .int-if2 .ensures, gpu .before .is-given2 .ensures, pel .int-if .ensures, pel .before .is-given .ensures)
     (rw (same (a .pel) (fit .pel), same (a .gpu) (fit .gpu), same (a .down) (fit .down), same (a .up) (fit .up), same (a .full) (fit .full), same (a .rc) (fit .rc), same (a .lean) (fit .lean)))
 
 pub settings-of-spec : {M : Type 1} → statement M

@@ -1,9 +1,9 @@
 -- `sill_accepted` meets its contract. Assumes nothing.
 use mathlib.Core.Path.{sym, ap, _∙_}
 use mathlib.Core.Bool.{Bool, not}
+use borrow.Author.Needs.{needs}
 use Rattle.settings.specs.Numbers.{refuse}
 use Rattle.settings.specs.Check.{accepted}
-use borrow.Author.Needs.{needs}
 use Rattle.exports.proofs.words.sill_accepted.Statement.{statement}
 use Rattle.exports.proofs.words.sill_accepted.Tie as tie
 

@@ -1,12 +1,12 @@
 -- `sill_check` meets its contract. Assumes nothing.
 use mathlib.Core.Path.{_≡_, refl, sym, ap, _∙_}
 use denote.Ref.{now}
+use borrow.Author.Needs.{needs}
 use Rattle.settings.specs.Check.{settled}
 use Rattle.settings.specs.Answers.{checked, checkAnswer, noRecord}
 use Rattle.settings.proofs.Integers.{same}
 use Rattle.exports.specs.Numbers.{numbersOf, settingsOf}
 use Rattle.exports.proofs.Telling.{number-of, tell-refused, tell-given}
-use borrow.Author.Needs.{needs}
 use Rattle.exports.proofs.words.sill_check.Statement.{statement}
 use Rattle.exports.proofs.words.sill_check.Tie as tie
 

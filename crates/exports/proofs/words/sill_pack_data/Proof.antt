@@ -3,12 +3,12 @@ use mathlib.Core.Path.{refl, sym, ap, _∙_}
 use mathlib.Core.List.{[], _∷_}
 use Prim.Native.Nat.{ℕ}
 use denote.Ref.{now}
+use borrow.Author.Needs.{needs}
 use Rattle.settings.specs.declared.super_opts.SuperOpts.{SuperOpts}
 use Rattle.settings.specs.Word.{wordOf}
 use Rattle.settings.specs.Answers.{packed}
 use Rattle.exports.specs.Answers.{packTells}
 use Rattle.exports.proofs.Telling.{number-of, tell-refused, tell-given}
-use borrow.Author.Needs.{needs}
 use Rattle.exports.proofs.words.sill_pack_data.Statement.{statement}
 use Rattle.exports.proofs.words.sill_pack_data.Tie as tie
 

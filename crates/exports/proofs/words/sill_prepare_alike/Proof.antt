@@ -2,8 +2,8 @@
 use mathlib.Core.Path.{_≡_, refl, ap, _∙_}
 use mathlib.Core.Bool.{Bool, true, false}
 use mir.Val.{boolByte}
-use Rattle.settings.specs.Numbers.{bit}
 use borrow.Author.Needs.{needs}
+use Rattle.settings.specs.Numbers.{bit}
 use Rattle.exports.proofs.words.sill_prepare_alike.Statement.{statement}
 use Rattle.exports.proofs.words.sill_prepare_alike.Tie as tie
 

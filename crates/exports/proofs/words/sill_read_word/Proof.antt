@@ -1,11 +1,11 @@
 -- `sill_read_word` meets its contract. Assumes nothing.
 use mathlib.Core.Path.{refl, sym, ap, _∙_}
 use denote.Ref.{now}
+use borrow.Author.Needs.{needs}
 use Rattle.settings.specs.Reading.{candidate, describe}
 use Rattle.settings.specs.Answers.{told, noDescription}
 use Rattle.exports.specs.Numbers.{toldNumbers}
 use Rattle.exports.proofs.Telling.{number-of, tell-refused, tell-given}
-use borrow.Author.Needs.{needs}
 use Rattle.exports.proofs.words.sill_read_word.Statement.{statement}
 use Rattle.exports.proofs.words.sill_read_word.Tie as tie
 

@@ -6,6 +6,7 @@ use lib.Dec.{ltb}
 use lib.IntN.{ℤ, pos}
 use lib.ListN.{length}
 use denote.Ref.{now}
+use borrow.Author.Needs.{needs, sfits-of}
 use Rattle.settings.specs.declared.refusal.Refusal.{Refusal}
 use Rattle.settings.specs.declared.super_opts.SuperOpts.{SuperOpts}
 use Rattle.settings.specs.Check.{superHeight, superWidth, recordNo}
@@ -13,7 +14,6 @@ use Rattle.settings.specs.Answers.{answer, number, sized}
 use Rattle.settings.proofs.Integers.{same}
 use Rattle.exports.specs.Answers.{lowest, sizesTells}
 use Rattle.exports.proofs.Telling.{number-of, value-given, tell-refused, tell-given}
-use borrow.Author.Needs.{needs, sfits-of}
 use Rattle.exports.proofs.words.sill_super_sizes.Statement.{statement}
 use Rattle.exports.proofs.words.sill_super_sizes.Tie as tie
 

@@ -1,7 +1,7 @@
 -- `told_numbers` meets its contract. Assumes nothing.
+use borrow.Author.Needs.{needs}
 use Rattle.settings.proofs.Integers.{same}
 use Rattle.settings.proofs.Fields.{SizesFit}
-use borrow.Author.Needs.{needs}
 use Rattle.exports.proofs.words.told_numbers.Statement.{statement}
 use Rattle.exports.proofs.words.told_numbers.Tie as tie
 

@@ -1,10 +1,10 @@
 -- `told_or_0` meets its contract. Assumes nothing.
 use mathlib.Core.Path.{sym, ap, _∙_}
-use mir.Facts.{toZ-ofZ}
 use lib.IntN.{pos}
+use mir.Facts.{toZ-ofZ}
+use borrow.Author.Needs.{needs}
 use Rattle.settings.specs.declared.super_opts.OptInt.{OptInt}
 use Rattle.settings.specs.Check.{intOr}
-use borrow.Author.Needs.{needs}
 use Rattle.exports.proofs.words.told_or_0.Statement.{statement}
 use Rattle.exports.proofs.words.told_or_0.Tie as tie
 
