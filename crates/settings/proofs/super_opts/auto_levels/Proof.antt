@@ -1,6 +1,5 @@
 -- `auto_levels` meets its contract. The levels so far and those of the reduced size are all there are. Assumes nothing.
 use lib.Dec.{ltb}
-use borrow.Author.Needs.{needs}
 use mathlib.Core.Path.{_≡_}
 use mathlib.Core.Bool.{true, false, _||_}
 use mathlib.Core.Logic.{⊎-elim}
@@ -36,10 +35,10 @@ unfolding reduced
 loop-holds c = (omega arith, omega arith)
 
 reduce-dim-requires : tie.Need-reduce-dim-requires Inv-loop μ-loop
-reduce-dim-requires c κs = search needs
+reduce-dim-requires c κs = tt
 
 reduce-dim-requires-2 : tie.Need-reduce-dim-requires-2 Inv-loop μ-loop
-reduce-dim-requires-2 c κs = search needs
+reduce-dim-requires-2 c κs = tt
 
 returns : tie.Need-returns Inv-loop μ-loop
 returns c = let b = c .before .before .before in stops (c .before .before .reduce-dim .ensures) (c .before .reduce-dim2 .ensures) (c .if1 .taken) (b .loop .inv .0)

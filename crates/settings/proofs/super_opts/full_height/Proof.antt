@@ -1,5 +1,4 @@
 -- `full_height` meets its contract. The sum so far is that of the levels passed. Assumes nothing.
-use borrow.Author.Needs.{needs}
 use mathlib.Core.Path.{_≡_, ap, _∙_}
 use Prim.Native.Nat.{ℕ, _+_, _*_, _-_, _≤_}
 use native.Mathlib.Omega.{arith}
@@ -26,7 +25,7 @@ unfolding sum
 loop-holds c = (omega arith, omega arith, omega arith)
 
 reduce-dim-requires : tie.Need-reduce-dim-requires Inv-loop μ-loop
-reduce-dim-requires c κs = search needs
+reduce-dim-requires c κs = tt
 
 add-total : tie.Need-add-total Inv-loop μ-loop
 add-total c =

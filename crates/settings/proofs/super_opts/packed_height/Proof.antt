@@ -2,7 +2,6 @@
 use mathlib.Core.Path.{_≡_, ap, _∙_}
 use Prim.Native.Nat.{_*_, _/_, max}
 use native.Mathlib.Omega.{arith}
-use borrow.Author.Needs.{needs}
 use Rattle.settings.specs.Sizes.{reduce, reduced}
 use Rattle.settings.specs.Check.{upward, raisedToEven, packedHeight}
 use Rattle.settings.proofs.Heights.{area-small, upward-le}
@@ -14,10 +13,10 @@ unfolding reduced
 row c = c .at-least-one .ensures ∙ ap (max 1) (c .before .reduce-dim .ensures)
 
 reduce-dim-requires : tie.Need-reduce-dim-requires
-reduce-dim-requires c κs = search needs
+reduce-dim-requires c κs = tt
 
 at-least-one-requires : tie.Need-at-least-one-requires
-at-least-one-requires c κs = search needs
+at-least-one-requires c κs = tt
 
 mul-upward : tie.Need-mul-upward
 mul-upward c = let a = c .before .before in omega (arith, area-small (a .args .base-w) (a .args .base-h) (a .pre .0) (a .pre .1))

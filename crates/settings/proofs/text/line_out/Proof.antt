@@ -9,13 +9,13 @@ use Rattle.settings.proofs.text.line_out.Statement.{statement}
 use Rattle.settings.proofs.text.line_out.Tie as tie
 
 hex-word-requires : tie.Need-hex-word-requires
-hex-word-requires c κs = search needs
+hex-word-requires c κs = tt
 
 enum-known-v : tie.Need-enum-known-v
 enum-known-v c = search needs
 
 new-requires : tie.Need-new-requires
-new-requires c κs = search needs
+new-requires c κs = tt
 
 with-word-requires : tie.Need-with-word-requires
 with-word-requires c κs = (c .new .ensures, word-length (c .before .before .before .before .before .before .args .line .now) (c .before .before .v .given .0 .0) (sym (c .before .before .v .given .1) ∙ c .before .before .before .before .hex-word .ensures))
@@ -27,7 +27,7 @@ enum-told : tie.Need-enum-told
 enum-told c = search needs
 
 new-requires-2 : tie.Need-new-requires-2
-new-requires-2 c κs = search needs
+new-requires-2 c κs = tt
 
 with-byte-requires-2 : tie.Need-with-byte-requires-2
 with-byte-requires-2 c κs = search needs

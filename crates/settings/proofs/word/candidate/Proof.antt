@@ -15,7 +15,7 @@ is-set-requires : tie.Need-is-set-requires
 is-set-requires c κs = search needs
 
 down-by-requires : tie.Need-down-by-requires
-down-by-requires c κs = search needs
+down-by-requires c κs = tt
 
 is-set-requires-2 : tie.Need-is-set-requires-2
 is-set-requires-2 c κs = search needs

@@ -9,16 +9,16 @@ fields : (c : tie.After-struct-told) → FieldsFit (c .before .before .args .r)
 fields c = search needs
 
 down-matters-requires : tie.Need-down-matters-requires
-down-matters-requires c κs = search needs
+down-matters-requires c κs = tt
 
 tell-if-requires : tie.Need-tell-if-requires
-tell-if-requires c κs = search needs
+tell-if-requires c κs = tt
 
 up-matters-requires : tie.Need-up-matters-requires
-up-matters-requires c κs = search needs
+up-matters-requires c κs = tt
 
 tell-if-requires-2 : tie.Need-tell-if-requires-2
-tell-if-requires-2 c κs = search needs
+tell-if-requires-2 c κs = tt
 
 returns : tie.Need-returns
 returns c =

@@ -8,7 +8,7 @@ use Rattle.settings.proofs.word.is_code.Statement.{statement}
 use Rattle.settings.proofs.word.is_code.Tie as tie
 
 pack-data-requires : tie.Need-pack-data-requires
-pack-data-requires c κs = search needs
+pack-data-requires c κs = tt
 
 enum-known-w : tie.Need-enum-known-w
 enum-known-w c = search needs

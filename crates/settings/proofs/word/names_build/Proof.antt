@@ -9,7 +9,7 @@ use Rattle.settings.proofs.word.names_build.Statement.{statement}
 use Rattle.settings.proofs.word.names_build.Tie as tie
 
 read-word-requires : tie.Need-read-word-requires
-read-word-requires c κs = search needs
+read-word-requires c κs = tt
 
 enum-told : tie.Need-enum-told
 enum-told c = search needs

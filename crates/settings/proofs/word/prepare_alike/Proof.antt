@@ -1,20 +1,19 @@
 -- `prepare_alike` meets its contract. Assumes nothing.
-use borrow.Author.Needs.{needs}
 use Rattle.settings.specs.Reading.{alike}
 use Rattle.settings.proofs.word.prepare_alike.Statement.{statement}
 use Rattle.settings.proofs.word.prepare_alike.Tie as tie
 
 names-build-requires : tie.Need-names-build-requires
-names-build-requires c κs = search needs
+names-build-requires c κs = tt
 
 names-build-requires-2 : tie.Need-names-build-requires-2
-names-build-requires-2 c κs = search needs
+names-build-requires-2 c κs = tt
 
 bare-requires : tie.Need-bare-requires
-bare-requires c κs = search needs
+bare-requires c κs = tt
 
 bare-requires-2 : tie.Need-bare-requires-2
-bare-requires-2 c κs = search needs
+bare-requires-2 c κs = tt
 
 returns : tie.Need-returns
 unfolding alike

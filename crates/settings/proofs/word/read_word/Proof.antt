@@ -8,7 +8,7 @@ use Rattle.settings.proofs.word.read_word.Statement.{statement}
 use Rattle.settings.proofs.word.read_word.Tie as tie
 
 candidate-requires : tie.Need-candidate-requires
-candidate-requires c κs = search needs
+candidate-requires c κs = tt
 
 tested-requires : tie.Need-tested-requires
 tested-requires c κs = search needs
@@ -17,7 +17,7 @@ enum-told : tie.Need-enum-told
 enum-told c = search needs
 
 describe-requires : tie.Need-describe-requires
-describe-requires c κs = search needs
+describe-requires c κs = tt
 
 enum-known-f : tie.Need-enum-known-f
 enum-known-f c = search needs

@@ -11,22 +11,22 @@ fields : (c : tie.After-struct-told) → FieldsFit (c .before .before .before .b
 fields c = search needs
 
 is-code-requires : tie.Need-is-code-requires
-is-code-requires c κs = search needs
+is-code-requires c κs = tt
 
 down-matters-requires : tie.Need-down-matters-requires
-down-matters-requires c κs = search needs
+down-matters-requires c κs = tt
 
 up-matters-requires : tie.Need-up-matters-requires
-up-matters-requires c κs = search needs
+up-matters-requires c κs = tt
 
 then-refuse-requires : tie.Need-then-refuse-requires
-then-refuse-requires c κs = search needs
+then-refuse-requires c κs = tt
 
 then-refuse-requires-2 : tie.Need-then-refuse-requires-2
-then-refuse-requires-2 c κs = search needs
+then-refuse-requires-2 c κs = tt
 
 then-refuse-requires-3 : tie.Need-then-refuse-requires-3
-then-refuse-requires-3 c κs = search needs
+then-refuse-requires-3 c κs = tt
 
 returns : tie.Need-returns
 unfolding readNo

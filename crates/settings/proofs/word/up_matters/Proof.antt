@@ -1,10 +1,9 @@
 -- `up_matters` meets its contract. Assumes nothing.
-use borrow.Author.Needs.{needs}
 use Rattle.settings.proofs.word.up_matters.Statement.{statement}
 use Rattle.settings.proofs.word.up_matters.Tie as tie
 
 naturals-requires : tie.Need-naturals-requires
-naturals-requires c κs = search needs
+naturals-requires c κs = tt
 
 returns : tie.Need-returns
 returns c = rw (c .before .before .before .before .naturals .ensures)

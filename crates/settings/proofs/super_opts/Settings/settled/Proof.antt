@@ -6,31 +6,31 @@ use Rattle.settings.proofs.super_opts.Settings.settled.Statement.{state
 use Rattle.settings.proofs.super_opts.Settings.settled.Tie as tie
 
 or-requires : tie.Need-or-requires
-or-requires c κs = search needs
+or-requires c κs = tt
 
 or-requires-2 : tie.Need-or-requires-2
-or-requires-2 c κs = search needs
+or-requires-2 c κs = tt
 
 or-requires-3 : tie.Need-or-requires-3
-or-requires-3 c κs = search needs
+or-requires-3 c κs = tt
 
 or-requires-4 : tie.Need-or-requires-4
-or-requires-4 c κs = search needs
+or-requires-4 c κs = tt
 
 up-by-requires : tie.Need-up-by-requires
-up-by-requires c κs = search needs
+up-by-requires c κs = tt
 
 or-requires-5 : tie.Need-or-requires-5
-or-requires-5 c κs = search needs
+or-requires-5 c κs = tt
 
 or-requires-6 : tie.Need-or-requires-6
-or-requires-6 c κs = search needs
+or-requires-6 c κs = tt
 
 or-requires-7 : tie.Need-or-requires-7
-or-requires-7 c κs = search needs
+or-requires-7 c κs = tt
 
 levels-of-requires : tie.Need-levels-of-requires
-levels-of-requires c κs = search needs
+levels-of-requires c κs = tt
 
 returns : tie.Need-returns
 unfolding settled

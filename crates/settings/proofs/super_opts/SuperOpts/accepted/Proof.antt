@@ -13,13 +13,13 @@ fields : (c : tie.After-struct-told) → FieldsFit (c .before .before .before .b
 fields c = search needs
 
 tested-requires : tie.Need-tested-requires
-tested-requires c κs = search needs
+tested-requires c κs = tt
 
 is-fine-requires : tie.Need-is-fine-requires
-is-fine-requires c κs = search needs
+is-fine-requires c κs = tt
 
 levels-of-requires : tie.Need-levels-of-requires
-levels-of-requires c κs = search needs
+levels-of-requires c κs = tt
 
 returns : tie.Need-returns
 unfolding accepted

@@ -6,7 +6,7 @@ use Rattle.settings.proofs.super_opts.SuperOpts.bad_lean.Statement.{sta
 use Rattle.settings.proofs.super_opts.SuperOpts.bad_lean.Tie as tie
 
 natural-requires : tie.Need-natural-requires
-natural-requires c κs = search needs
+natural-requires c κs = tt
 
 returns : tie.Need-returns
 returns c = let b = c .before .before .before .before .before .before in let r = b .before .before .args .self in rw (b .natural .ensures, is-by-bits (r .gpu) 1 (search needs) (lit< tt), is-by-bits (r .«scale_down») 4 (search needs) (lit< tt), same (r .pel) (search needs))

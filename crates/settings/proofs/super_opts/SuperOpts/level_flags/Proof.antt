@@ -6,13 +6,13 @@ use Rattle.settings.proofs.super_opts.SuperOpts.level_flags.Statement.{
 use Rattle.settings.proofs.super_opts.SuperOpts.level_flags.Tie as tie
 
 bit-requires : tie.Need-bit-requires
-bit-requires c κs = search needs
+bit-requires c κs = tt
 
 mul-result : tie.Need-mul-result
 mul-result c = search needs
 
 bit-requires-2 : tie.Need-bit-requires-2
-bit-requires-2 c κs = search needs
+bit-requires-2 c κs = tt
 
 mul-result-2 : tie.Need-mul-result-2
 mul-result-2 c = search needs

@@ -9,19 +9,19 @@ fields : (c : tie.After-struct-told) → FieldsFit (c .before .args .self)
 fields c = search needs
 
 natural-requires : tie.Need-natural-requires
-natural-requires c κs = search needs
+natural-requires c κs = tt
 
 natural-requires-2 : tie.Need-natural-requires-2
-natural-requires-2 c κs = search needs
+natural-requires-2 c κs = tt
 
 natural-requires-3 : tie.Need-natural-requires-3
-natural-requires-3 c κs = search needs
+natural-requires-3 c κs = tt
 
 natural-requires-4 : tie.Need-natural-requires-4
-natural-requires-4 c κs = search needs
+natural-requires-4 c κs = tt
 
 natural-requires-5 : tie.Need-natural-requires-5
-natural-requires-5 c κs = search needs
+natural-requires-5 c κs = tt
 
 returns : tie.Need-returns
 returns c =

@@ -24,13 +24,13 @@ levels : (c : tie.After-natural) → c .natural .result ≡ levelCount (c .befor
 levels c = counts (c .before .before .before .before .args .self .levels) (c .natural .result) (search needs) (c .natural .ensures)
 
 accepted-requires : tie.Need-accepted-requires
-accepted-requires c κs = search needs
+accepted-requires c κs = tt
 
 returns : tie.Need-returns
 returns c = let r = c .before .before .args .self in refused (packNo r) NoRecord (wordOf r) 0 (rw (← no-record r (c .before .accepted .result) (c .before .accepted .ensures) (c .if1 .taken)))
 
 natural-requires : tie.Need-natural-requires
-natural-requires c κs = search needs
+natural-requires c κs = tt
 
 returns-2 : tie.Need-returns-2
 returns-2 c =

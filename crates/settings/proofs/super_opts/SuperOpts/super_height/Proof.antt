@@ -21,7 +21,7 @@ passed c =
     is-record (a .before .args .self) (a .accepted .result) (a .accepted .ensures) (c .before .before .if1 .left)
 
 accepted-requires : tie.Need-accepted-requires
-accepted-requires c κs = search needs
+accepted-requires c κs = tt
 
 returns : tie.Need-returns
 returns c = let r = c .before .before .args .self in refused (recordNo r) NoRecord (pos (superHeight r)) (pos 0) (no-record r (c .before .accepted .result) (c .before .accepted .ensures) (c .if1 .taken))
@@ -34,7 +34,7 @@ returns-2 c =
     sizes r (pos 2) (superHeight r) (is-record r (a .accepted .result) (a .accepted .ensures) (c .before .if1 .left)) (rw (c .if2 .taken))
 
 naturals-requires : tie.Need-naturals-requires
-naturals-requires c κs = search needs
+naturals-requires c κs = tt
 
 super-plane-height-requires : tie.Need-super-plane-height-requires
 super-plane-height-requires c κs =

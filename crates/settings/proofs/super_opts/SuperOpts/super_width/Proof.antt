@@ -32,7 +32,7 @@ small : (c : tie.After-reduce-dim) → c .reduce-dim .result < 2 ^ 31
 small c = omega (arith, halved c, within (c .before .before .before .before .before .before .args .self) (passed c) .width)
 
 accepted-requires : tie.Need-accepted-requires
-accepted-requires c κs = search needs
+accepted-requires c κs = tt
 
 returns : tie.Need-returns
 returns c = let r = c .before .before .args .self in refused (recordNo r) NoRecord (pos (superWidth r)) (pos 0) (no-record r (c .before .accepted .result) (c .before .accepted .ensures) (c .if1 .taken))
@@ -45,10 +45,10 @@ returns-2 c =
     sizes r (toZ w32 (ofZ w32 (r .width))) (superWidth r) e (same (r .width) (search needs) ∙ sym (pos-side (r .width) (sound r (fine r e .none) .width)) ∙ rw (c .before .if2 .taken))
 
 natural-requires : tie.Need-natural-requires
-natural-requires c κs = search needs
+natural-requires c κs = tt
 
 reduce-dim-requires : tie.Need-reduce-dim-requires
-reduce-dim-requires c κs = search needs
+reduce-dim-requires c κs = tt
 
 cast-t7 : tie.Need-cast-t7
 cast-t7 c = record { sfits = small c }

@@ -10,37 +10,37 @@ fields : (c : tie.After-struct-told) → FieldsFit (c .before .args .self)
 fields c = search needs
 
 is-pel-requires : tie.Need-is-pel-requires
-is-pel-requires c κs = search needs
+is-pel-requires c κs = tt
 
 is-gpu-requires : tie.Need-is-gpu-requires
-is-gpu-requires c κs = search needs
+is-gpu-requires c κs = tt
 
 no-finest-requires : tie.Need-no-finest-requires
-no-finest-requires c κs = search needs
+no-finest-requires c κs = tt
 
 bad-lean-requires : tie.Need-bad-lean-requires
-bad-lean-requires c κs = search needs
+bad-lean-requires c κs = tt
 
 is-side-requires : tie.Need-is-side-requires
-is-side-requires c κs = search needs
+is-side-requires c κs = tt
 
 is-side-requires-2 : tie.Need-is-side-requires-2
-is-side-requires-2 c κs = search needs
+is-side-requires-2 c κs = tt
 
 then-refuse-requires : tie.Need-then-refuse-requires
-then-refuse-requires c κs = search needs
+then-refuse-requires c κs = tt
 
 then-refuse-requires-2 : tie.Need-then-refuse-requires-2
-then-refuse-requires-2 c κs = search needs
+then-refuse-requires-2 c κs = tt
 
 then-refuse-requires-3 : tie.Need-then-refuse-requires-3
-then-refuse-requires-3 c κs = search needs
+then-refuse-requires-3 c κs = tt
 
 then-refuse-requires-4 : tie.Need-then-refuse-requires-4
-then-refuse-requires-4 c κs = search needs
+then-refuse-requires-4 c κs = tt
 
 then-refuse-requires-5 : tie.Need-then-refuse-requires-5
-then-refuse-requires-5 c κs = search needs
+then-refuse-requires-5 c κs = tt
 
 returns : tie.Need-returns
 unfolding settingsNo

@@ -9,13 +9,13 @@ use Rattle.settings.proofs.super_opts.SuperOpts.word.Statement.{stateme
 use Rattle.settings.proofs.super_opts.SuperOpts.word.Tie as tie
 
 naturals-requires : tie.Need-naturals-requires
-naturals-requires c κs = search needs
+naturals-requires c κs = tt
 
 cast-levels : tie.Need-cast-levels
 cast-levels c = search needs
 
 level-flags-requires : tie.Need-level-flags-requires
-level-flags-requires c κs = search needs
+level-flags-requires c κs = tt
 
 add-levels : tie.Need-add-levels
 add-levels c =
@@ -36,7 +36,7 @@ cast-joined-4 : tie.Need-cast-joined-4
 cast-joined-4 c = search needs
 
 flags-requires : tie.Need-flags-requires
-flags-requires c κs = search needs
+flags-requires c κs = tt
 
 joined-requires : tie.Need-joined-requires
 joined-requires c κs =

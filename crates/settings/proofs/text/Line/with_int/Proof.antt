@@ -2,7 +2,6 @@
 use mathlib.Core.Path.{_≡_, ap}
 use Prim.Native.Nat.{ℕ}
 use native.Mathlib.Omega.{arith}
-use borrow.Author.Needs.{needs}
 use Rattle.settings.specs.Numbers.{toNat}
 use Rattle.settings.specs.Text.{decimal, spaced}
 use Rattle.settings.proofs.Integers.{counts}
@@ -14,7 +13,7 @@ number : (c : tie.After-natural) → c .natural .result ≡ toNat (c .before .ar
 number c = counts (c .before .args .z) (c .natural .result) (c .before .fits .z) (c .natural .ensures)
 
 natural-requires : tie.Need-natural-requires
-natural-requires c κs = search needs
+natural-requires c κs = tt
 
 with-number-requires : tie.Need-with-number-requires
 with-number-requires c κs = omega (arith, number c)

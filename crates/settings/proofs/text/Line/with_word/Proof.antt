@@ -27,7 +27,7 @@ with-bytes-requires : tie.Need-with-bytes-requires
 with-bytes-requires c κs = search needs
 
 read-word-requires : tie.Need-read-word-requires
-read-word-requires c κs = search needs
+read-word-requires c κs = tt
 
 enum-known-d : tie.Need-enum-known-d
 enum-known-d c = search needs
@@ -46,7 +46,7 @@ enum-known-f : tie.Need-enum-known-f
 enum-known-f c = search needs
 
 number-requires : tie.Need-number-requires
-number-requires c κs = search needs
+number-requires c κs = tt
 
 with-number-requires-2 : tie.Need-with-number-requires-2
 with-number-requires-2 c κs =
