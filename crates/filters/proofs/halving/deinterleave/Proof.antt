@@ -15,7 +15,7 @@ shared-slice-read-mean-2 : tie.Need-shared-slice-read-mean-2
 shared-slice-read-mean-2 c = search needs
 
 mean-requires : tie.Need-mean-requires
-mean-requires c κs = search needs
+mean-requires c κs = tt
 
 slice-write-split : tie.Need-slice-write-split
 slice-write-split c = search needs

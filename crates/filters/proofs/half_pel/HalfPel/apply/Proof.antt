@@ -10,13 +10,13 @@ enum-told : tie.Need-enum-told
 enum-told c = search needs
 
 apply-requires : tie.Need-apply-requires
-apply-requires c κs = search needs
+apply-requires c κs = tt
 
 enum-told-2 : tie.Need-enum-told-2
 enum-told-2 c = search needs
 
 apply-requires-2 : tie.Need-apply-requires-2
-apply-requires-2 c κs = search needs
+apply-requires-2 c κs = tt
 
 returns : tie.Need-returns
 returns c = let a = c .before .before .before .args in c .apply .ensures ∙ ap (λ (k : HalfPel). halfPel k (a .m2) (a .m1) (a .c0) (a .p1) (a .p2) (a .p3)) (sym (c .before .enum-told .given .1))

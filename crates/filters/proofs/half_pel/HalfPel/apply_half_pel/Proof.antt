@@ -37,7 +37,7 @@ shared-slice-read-apply-6 : tie.Need-shared-slice-read-apply-6 Inv-loop μ-loop
 shared-slice-read-apply-6 c = omega arith
 
 apply-requires : tie.Need-apply-requires Inv-loop μ-loop
-apply-requires c κs = search needs
+apply-requires c κs = tt
 
 slice-write-out : tie.Need-slice-write-out Inv-loop μ-loop
 slice-write-out c = omega arith

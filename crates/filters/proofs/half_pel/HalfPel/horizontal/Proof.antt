@@ -17,10 +17,10 @@ mean-with-next-requires : tie.Need-mean-with-next-requires
 mean-with-next-requires c κs = search needs
 
 lead-requires : tie.Need-lead-requires
-lead-requires c κs = search needs
+lead-requires c κs = tt
 
 tail-requires : tie.Need-tail-requires
-tail-requires c κs = search needs
+tail-requires c κs = tt
 
 add-if1 : tie.Need-add-if1
 add-if1 c = search needs

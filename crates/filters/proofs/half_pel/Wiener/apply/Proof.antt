@@ -25,10 +25,10 @@ mul-down : tie.Need-mul-down
 mul-down c = search needs
 
 excess-requires : tie.Need-excess-requires
-excess-requires c κs = search needs
+excess-requires c κs = tt
 
 held-requires : tie.Need-held-requires
-held-requires c κs = search needs
+held-requires c κs = tt
 
 returns : tie.Need-returns
 returns c = search needs

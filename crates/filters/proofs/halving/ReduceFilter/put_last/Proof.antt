@@ -5,7 +5,7 @@ use Rattle.filters.proofs.halving.ReduceFilter.put_last.Statement.{stat
 use Rattle.filters.proofs.halving.ReduceFilter.put_last.Tie as tie
 
 last-is-mean-requires : tie.Need-last-is-mean-requires
-last-is-mean-requires c κs = search needs
+last-is-mean-requires c κs = tt
 
 shared-slice-read-mean : tie.Need-shared-slice-read-mean
 shared-slice-read-mean c = search needs
@@ -17,7 +17,7 @@ shared-slice-read-mean-2 : tie.Need-shared-slice-read-mean-2
 shared-slice-read-mean-2 c = search needs
 
 mean-requires : tie.Need-mean-requires
-mean-requires c κs = search needs
+mean-requires c κs = tt
 
 sub-out : tie.Need-sub-out
 sub-out c = search needs

@@ -1,13 +1,12 @@
 -- `ReduceFilter::vertical_edge` meets its contract. Assumes nothing.
 use native.Mathlib.Omega.{arith}
-use borrow.Author.Needs.{needs}
 use Rattle.filters.proofs.halving.ReduceFilter.vertical_edge.Statement.{statement}
 use Rattle.filters.proofs.halving.ReduceFilter.vertical_edge.Tie as tie
 
 -- `ReduceFilter::vertical_edge` meets its contract. Assumes nothing.
 
 last-is-mean-requires : tie.Need-last-is-mean-requires
-last-is-mean-requires c κs = search needs
+last-is-mean-requires c κs = tt
 
 add-result : tie.Need-add-result
 add-result c = omega arith

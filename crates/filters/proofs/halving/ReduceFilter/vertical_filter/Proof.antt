@@ -37,7 +37,7 @@ shared-slice-read-weigh-bytes-6 : tie.Need-shared-slice-read-weigh-bytes-6 Inv-l
 shared-slice-read-weigh-bytes-6 c = omega arith
 
 weigh-bytes-requires : tie.Need-weigh-bytes-requires Inv-loop μ-loop
-weigh-bytes-requires c κs = search needs
+weigh-bytes-requires c κs = tt
 
 slice-write-out : tie.Need-slice-write-out Inv-loop μ-loop
 slice-write-out c = omega arith
