@@ -1,11 +1,10 @@
 // The margins of a frame's levels, from the width to the pitch: open-svpflow's `clear_margins` and `cubic_fits`, their names kept.
 // First which levels are fused; then a level's margins; last the public call.
 ghost use mathlib.Core.Path.{_≡_};
-ghost use Prim.Native.Nat.{_+_, _*_, _-_, _≤_, _<_};
-ghost use lib.ListN.{length, replicate};
+ghost use Prim.Native.Nat.{_+_, _*_, _≤_, _<_};
+ghost use lib.ListN.{length};
 ghost use Rattle.settings.specs.Limits.{mostSide, mostPitch};
 ghost use Rattle.settings.specs.Answers.{answer, tested};
-ghost use Rattle.builder.specs.Canvas.{put};
 ghost use Rattle.builder.specs.Layout.{levelsOf, mostOffset, writtenEnd};
 ghost use Rattle.builder.specs.Margins.{cubicFits, fusedAt, clearRows, clearLevel, cleared};
 ghost use Rattle.builder.specs.Numbers.{layoutNo};

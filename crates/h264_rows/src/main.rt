@@ -1,6 +1,6 @@
 // Holds the Wiener rows to pictures whose half samples an independent H.264 decoder made (docs/VECTORS.md says how): positions b, half a place along a row, and h, half a place down, where the rule has no edge.
 // Standard input: for each picture its width and height (a byte each), then the picture, the plane of b and the plane of h. A line is printed for each: how many samples were compared, and how many differ.
-ghost use Prim.Native.Nat.{_+_, _*_, _≤_, _<_};
+ghost use Prim.Native.Nat.{_+_, _≤_, _<_};
 ghost use mathlib.Core.Path.{_≡_};
 ghost use lib.ListN.{length};
 use filters::half_pel::HalfPel;

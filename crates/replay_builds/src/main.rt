@@ -3,7 +3,7 @@
 // Made bytes: x becomes 48,271 * x modulo 2^31 - 1, from the seed on, and the byte is floor(x / 2^23); seed 0 makes zeros. Spill and scratch go on where the frame ends.
 // The answer is the number (4 bytes), the sums of frame, spill and scratch after the call (8 bytes each) and, if asked for, the frame.
 // A sum is two numbers of 4 bytes: from 1 on, h becomes (h * m + byte) modulo 4,294,967,291, with m = 1,000,003 for the first and m = 998,244,353 for the second.
-ghost use Prim.Native.Nat.{_≤_, _<_};
+ghost use Prim.Native.Nat.{_<_};
 use builder::build::build_plane;
 use frame_cases::layout_of;
 use frame_cases::long;

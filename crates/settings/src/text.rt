@@ -2,9 +2,9 @@
 // First hexadecimal in; then `Line`, text that is being made, with what is put after it; then `line_out`, a whole line; last `line_end`, where a line of the input ends.
 ghost use mathlib.Core.Path.{_≡_};
 ghost use mathlib.Core.Bool.{true};
-ghost use mathlib.Core.List.{[], _∷_, _++_};
-ghost use Prim.Native.Nat.{ℕ, _+_, _*_, _/_, _%_, _≤_, _<_, min};
-ghost use lib.ListN.{length, getD, take};
+ghost use mathlib.Core.List.{[], _∷_};
+ghost use Prim.Native.Nat.{_+_, _≤_, _<_, min};
+ghost use lib.ListN.{length};
 ghost use Rattle.settings.specs.Numbers.{bit, toNat};
 ghost use Rattle.settings.specs.Text.{isHex, hexOf, hexRead, decimal, spaced, optional, optionalNat, described, wordLine, sizesText, flagsText, filtersText, digitAt, lineOut, shown, Appended, mostPrinted, Printable, LineEnd};
 use crate::numbers::natural;
