@@ -25,10 +25,10 @@ use filters::half_pel::HalfPel;
 use filters::rows::zero_row;
 use settings::refusal::Tested;
 
-// Level 0, where it is stored: the source plane's rows, sp apart.
-fn copy_rows(frame: &mut [u8], layout: Layout, src: &[u8], sp: usize)
-    requires { ⌜ (1 ≤ levelsOf layout) × (Ready layout (length (now src)) sp (length (now frame)) (spillNeed layout) (scratchNeed layout)) ⌝ }
-    ensures { λ r. ⌜ now (frame .exit) ≡ cond (layout .opts .full) (copied layout (now (src .entry)) sp (now (frame .entry))) (now (frame .entry)) ⌝ }
+// Level 0, where it is stored: the source plane's rows, src_pitch apart.
+fn copy_rows(frame: &mut [u8], layout: Layout, src: &[u8], src_pitch: usize)
+    requires { ⌜ (1 ≤ levelsOf layout) × (Ready layout (length (now src)) «src_pitch» (length (now frame)) (spillNeed layout) (scratchNeed layout)) ⌝ }
+    ensures { λ r. ⌜ now (frame .exit) ≡ cond (layout .opts .full) (copied layout (now (src .entry)) «src_pitch» (now (frame .entry))) (now (frame .entry)) ⌝ }
 {
     let opts = layout.opts;
     if !opts.full {
@@ -37,7 +37,7 @@ fn copy_rows(frame: &mut [u8], layout: Layout, src: &[u8], sp: usize)
     let w = width(layout, 0);
     let h = height(layout, 0);
     for y in 0..h {
-        put(frame, y * layout.pitch, source_row(src, sp, w, h, y));
+        put(frame, y * layout.pitch, source_row(src, src_pitch, w, h, y));
     }
 }
 
@@ -67,18 +67,18 @@ fn build_levels(
     scratch: &mut [u8],
     layout: Layout,
     src: &[u8],
-    sp: usize,
+    src_pitch: usize,
 )
-    requires { ⌜ Ready layout (length (now src)) sp (length (now frame)) (length (now spill)) (length (now scratch)) ⌝ }
-    ensures { λ r. ⌜ now (frame .exit) ++ now (spill .exit) ≡ built layout (now (src .entry)) sp (length (now (frame .entry))) (now (frame .entry) ++ now (spill .entry)) ⌝ }
+    requires { ⌜ Ready layout (length (now src)) «src_pitch» (length (now frame)) (length (now spill)) (length (now scratch)) ⌝ }
+    ensures { λ r. ⌜ now (frame .exit) ++ now (spill .exit) ≡ built layout (now (src .entry)) «src_pitch» (length (now (frame .entry))) (now (frame .entry) ++ now (spill .entry)) ⌝ }
 {
     let opts = layout.opts;
     let n = opts.naturals();
     if n.levels == 0 {
         return;
     }
-    copy_rows(frame, layout, src, sp);
-    reduce_levels(frame, spill, scratch, layout, src, sp);
+    copy_rows(frame, layout, src, src_pitch);
+    reduce_levels(frame, spill, scratch, layout, src, src_pitch);
     refine_planes(frame, spill, scratch, layout);
 }
 
@@ -89,15 +89,15 @@ fn build_spilled(
     scratch: &mut [u8],
     layout: Layout,
     src: &[u8],
-    sp: usize,
+    src_pitch: usize,
 )
-    requires { ⌜ Ready layout (length (now src)) sp (length (now frame)) (length (now spill)) (length (now scratch)) ⌝ }
-    ensures { λ r. ⌜ now (frame .exit) ≡ builtFrame layout (now (src .entry)) sp (now (frame .entry)) ⌝ }
+    requires { ⌜ Ready layout (length (now src)) «src_pitch» (length (now frame)) (length (now spill)) (length (now scratch)) ⌝ }
+    ensures { λ r. ⌜ now (frame .exit) ≡ builtFrame layout (now (src .entry)) «src_pitch» (now (frame .entry)) ⌝ }
 {
     let need = spill_need(layout);
     let beyond = &mut spill[..need];
     zero_row(beyond);
-    build_levels(frame, beyond, scratch, layout, src, sp);
+    build_levels(frame, beyond, scratch, layout, src, src_pitch);
 }
 
 // Builds a plane's levels from the source plane, its rows src_pitch apart; what was lent for it holds zeros after. Refusals 6 to 13.

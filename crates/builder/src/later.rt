@@ -25,11 +25,11 @@ fn reduce(
     scratch: &mut [u8],
     layout: Layout,
     src: &[u8],
-    sp: usize,
+    src_pitch: usize,
     level: u32,
 )
-    requires { ⌜ Ready layout (length (now src)) sp (length (now frame)) (length (now spill)) (length (now scratch)) × (1 ≤ level) × (level < levelsOf layout) ⌝ }
-    ensures { λ r. ⌜ now (frame .exit) ++ now (spill .exit) ≡ halveLevel layout (now (src .entry)) sp (length (now (frame .entry))) filter level (now (frame .entry) ++ now (spill .entry)) ⌝ }
+    requires { ⌜ Ready layout (length (now src)) «src_pitch» (length (now frame)) (length (now spill)) (length (now scratch)) × (1 ≤ level) × (level < levelsOf layout) ⌝ }
+    ensures { λ r. ⌜ now (frame .exit) ++ now (spill .exit) ≡ halveLevel layout (now (src .entry)) «src_pitch» (length (now (frame .entry))) filter level (now (frame .entry) ++ now (spill .entry)) ⌝ }
 {
     let opts = layout.opts;
     let pitch = layout.pitch;
@@ -43,7 +43,7 @@ fn reduce(
         reduce_within(filter, frame, scratch, base, pitch, target);
         return;
     }
-    reduce_separate(filter, frame, spill, scratch, src, sp, pitch, target);
+    reduce_separate(filter, frame, spill, scratch, src, src_pitch, pitch, target);
 }
 
 fn reduce_each(
@@ -53,16 +53,16 @@ fn reduce_each(
     scratch: &mut [u8],
     layout: Layout,
     src: &[u8],
-    sp: usize,
+    src_pitch: usize,
 )
-    requires { ⌜ Ready layout (length (now src)) sp (length (now frame)) (length (now spill)) (length (now scratch)) ⌝ }
-    ensures { λ r. ⌜ now (frame .exit) ++ now (spill .exit) ≡ halved layout (now (src .entry)) sp (length (now (frame .entry))) (Filter filter) (now (frame .entry) ++ now (spill .entry)) ⌝ }
+    requires { ⌜ Ready layout (length (now src)) «src_pitch» (length (now frame)) (length (now spill)) (length (now scratch)) ⌝ }
+    ensures { λ r. ⌜ now (frame .exit) ++ now (spill .exit) ≡ halved layout (now (src .entry)) «src_pitch» (length (now (frame .entry))) (Filter filter) (now (frame .entry) ++ now (spill .entry)) ⌝ }
 {
     let opts = layout.opts;
     let n = opts.naturals();
     let levels = n.levels;
     for level in 1..levels {
-        reduce(filter, frame, spill, scratch, layout, src, sp, level);
+        reduce(filter, frame, spill, scratch, layout, src, src_pitch, level);
     }
 }
 
@@ -72,14 +72,14 @@ pub fn reduce_levels(
     scratch: &mut [u8],
     layout: Layout,
     src: &[u8],
-    sp: usize,
+    src_pitch: usize,
 )
-    requires { ⌜ Ready layout (length (now src)) sp (length (now frame)) (length (now spill)) (length (now scratch)) ⌝ }
-    ensures { λ r. ⌜ now (frame .exit) ++ now (spill .exit) ≡ halved layout (now (src .entry)) sp (length (now (frame .entry))) (chosen (layout .opts .«scale_down»)) (now (frame .entry) ++ now (spill .entry)) ⌝ }
+    requires { ⌜ Ready layout (length (now src)) «src_pitch» (length (now frame)) (length (now spill)) (length (now scratch)) ⌝ }
+    ensures { λ r. ⌜ now (frame .exit) ++ now (spill .exit) ≡ halved layout (now (src .entry)) «src_pitch» (length (now (frame .entry))) (chosen (layout .opts .«scale_down»)) (now (frame .entry) ++ now (spill .entry)) ⌝ }
 {
     let opts = layout.opts;
     let Chosen::Filter(filter) = ReduceFilter::from_option(opts.scale_down) else {
         return;
     };
-    reduce_each(filter, frame, spill, scratch, layout, src, sp);
+    reduce_each(filter, frame, spill, scratch, layout, src, src_pitch);
 }

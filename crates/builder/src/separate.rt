@@ -1,5 +1,5 @@
 // Level 1 from the source plane, where level 0 isn't stored: open-svpflow's `reduce` with a `Source::Separate`, its rows first 2 * pitch apart in frame and spill.
-// First the vertical rows; then the halved rows; then the rows close up; last the level. The source's rows lie sp apart.
+// First the vertical rows; then the halved rows; then the rows close up; last the level. The source's rows lie src_pitch apart.
 ghost use mathlib.Core.Path.{_≡_};
 ghost use mathlib.Core.List.{_++_};
 ghost use Prim.Native.Nat.{_+_, _*_, _≤_, _<_};
@@ -26,16 +26,16 @@ fn spread_vertical_row(
     spill: &mut [u8],
     scratch: &mut [u8],
     src: &[u8],
-    sp: usize,
+    src_pitch: usize,
     pitch: usize,
     target: Region,
     y: usize,
 )
-    requires { ⌜ Spread (length (now src)) sp (length (now frame)) (length (now spill)) (length (now scratch)) pitch target × (y < target .height) ⌝ }
-    ensures { λ r. ⌜ now (frame .exit) ++ now (spill .exit) ≡ put (now (frame .entry) ++ now (spill .entry)) (target .offset + y * (2 * pitch)) (verticalLine filter (wholeOf filter (2 * target .width)) (2 * target .width) (target .height) (now (src .entry)) 0 sp y) ⌝ }
+    requires { ⌜ Spread (length (now src)) «src_pitch» (length (now frame)) (length (now spill)) (length (now scratch)) pitch target × (y < target .height) ⌝ }
+    ensures { λ r. ⌜ now (frame .exit) ++ now (spill .exit) ≡ put (now (frame .entry) ++ now (spill .entry)) (target .offset + y * (2 * pitch)) (verticalLine filter (wholeOf filter (2 * target .width)) (2 * target .width) (target .height) (now (src .entry)) 0 «src_pitch» y) ⌝ }
 {
     let line = &mut scratch[..2 * target.width];
-    vertical_line(filter, line, src, 0, sp, target.height, y);
+    vertical_line(filter, line, src, 0, src_pitch, target.height, y);
     store(frame, spill, target.offset + y * (2 * pitch), line);
 }
 
@@ -45,16 +45,26 @@ fn spread_vertical(
     spill: &mut [u8],
     scratch: &mut [u8],
     src: &[u8],
-    sp: usize,
+    src_pitch: usize,
     pitch: usize,
     target: Region,
 )
-    requires { ⌜ Spread (length (now src)) sp (length (now frame)) (length (now spill)) (length (now scratch)) pitch target ⌝ }
-    ensures { λ r. ⌜ now (frame .exit) ++ now (spill .exit) ≡ verticalRows filter (λ d. now (src .entry)) 0 sp target (2 * pitch) (now (frame .entry) ++ now (spill .entry)) ⌝ }
+    requires { ⌜ Spread (length (now src)) «src_pitch» (length (now frame)) (length (now spill)) (length (now scratch)) pitch target ⌝ }
+    ensures { λ r. ⌜ now (frame .exit) ++ now (spill .exit) ≡ verticalRows filter (λ d. now (src .entry)) 0 «src_pitch» target (2 * pitch) (now (frame .entry) ++ now (spill .entry)) ⌝ }
 {
     let height = target.height;
     for y in 0..height {
-        spread_vertical_row(filter, frame, spill, scratch, src, sp, pitch, target, y);
+        spread_vertical_row(
+            filter,
+            frame,
+            spill,
+            scratch,
+            src,
+            src_pitch,
+            pitch,
+            target,
+            y,
+        );
     }
 }
 
@@ -162,14 +172,14 @@ pub fn reduce_separate(
     spill: &mut [u8],
     scratch: &mut [u8],
     src: &[u8],
-    sp: usize,
+    src_pitch: usize,
     pitch: usize,
     target: Region,
 )
-    requires { ⌜ Spread (length (now src)) sp (length (now frame)) (length (now spill)) (length (now scratch)) pitch target ⌝ }
-    ensures { λ r. ⌜ now (frame .exit) ++ now (spill .exit) ≡ fromSource filter (now (src .entry)) sp pitch target (now (frame .entry) ++ now (spill .entry)) ⌝ }
+    requires { ⌜ Spread (length (now src)) «src_pitch» (length (now frame)) (length (now spill)) (length (now scratch)) pitch target ⌝ }
+    ensures { λ r. ⌜ now (frame .exit) ++ now (spill .exit) ≡ fromSource filter (now (src .entry)) «src_pitch» pitch target (now (frame .entry) ++ now (spill .entry)) ⌝ }
 {
-    spread_vertical(filter, frame, spill, scratch, src, sp, pitch, target);
+    spread_vertical(filter, frame, spill, scratch, src, src_pitch, pitch, target);
     spread_halves(filter, frame, spill, scratch, pitch, target);
     close_up(frame, spill, scratch, pitch, target);
 }

@@ -33,70 +33,70 @@ fn second(last: usize) -> usize
 }
 
 // A row that the filter doesn't read may lie past the source: one that it reads stands in for it.
-fn whole_line(filter: ReduceFilter, out: &mut [u8], s: &[u8], at: usize, sp: usize)
-    requires { ⌜ (2 * sp ≤ at) × (at + lastRow filter * sp + length (now out) ≤ length (now s)) ⌝ }
-    ensures { λ r. ⌜ now (out .exit) ≡ wholeLine filter (length (now (out .entry))) (now (s .entry)) at sp ⌝ }
+fn whole_line(filter: ReduceFilter, out: &mut [u8], s: &[u8], at: usize, src_pitch: usize)
+    requires { ⌜ (2 * «src_pitch» ≤ at) × (at + lastRow filter * «src_pitch» + length (now out) ≤ length (now s)) ⌝ }
+    ensures { λ r. ⌜ now (out .exit) ≡ wholeLine filter (length (now (out .entry))) (now (s .entry)) at «src_pitch» ⌝ }
 {
     let n = out.len();
     let first = filter.first_row();
     let last = filter.last_row();
-    let m2 = span(s, at - first * sp, n);
-    let m1 = span(s, at - sp, n);
+    let m2 = span(s, at - first * src_pitch, n);
+    let m1 = span(s, at - src_pitch, n);
     let c0 = span(s, at, n);
-    let p1 = span(s, at + sp, n);
-    let p2 = span(s, at + second(last) * sp, n);
-    let p3 = span(s, at + last * sp, n);
+    let p1 = span(s, at + src_pitch, n);
+    let p2 = span(s, at + second(last) * src_pitch, n);
+    let p3 = span(s, at + last * src_pitch, n);
     filter.vertical_filter(out, m2, m1, c0, p1, p2, p3);
 }
 
-fn rest_line(out: &mut [u8], s: &[u8], x: usize, sp: usize)
-    requires { ⌜ (2 * sp ≤ x) × (x + 3 * sp + length (now out) ≤ length (now s)) ⌝ }
-    ensures { λ r. ⌜ now (out .exit) ≡ restLine (length (now (out .entry))) (now (s .entry)) x sp ⌝ }
+fn rest_line(out: &mut [u8], s: &[u8], x: usize, src_pitch: usize)
+    requires { ⌜ (2 * «src_pitch» ≤ x) × (x + 3 * «src_pitch» + length (now out) ≤ length (now s)) ⌝ }
+    ensures { λ r. ⌜ now (out .exit) ≡ restLine (length (now (out .entry))) (now (s .entry)) x «src_pitch» ⌝ }
 {
     let n = out.len();
-    let half = sp / 2;
+    let half = src_pitch / 2;
     let a = span(s, x - half, n);
-    let m1 = span(s, x - sp, n);
+    let m1 = span(s, x - src_pitch, n);
     let c0 = span(s, x, n);
-    let p1 = span(s, x + sp, n);
+    let p1 = span(s, x + src_pitch, n);
     let b = span(s, x + half, n);
     let c = span(s, x + 3 * half, n);
     cubic_rest(out, a, m1, c0, p1, b, c);
 }
 
-fn inner_line(filter: ReduceFilter, out: &mut [u8], s: &[u8], at: usize, sp: usize)
-    requires { ⌜ (2 * sp ≤ at) × (at + lastRow filter * sp + length (now out) ≤ length (now s)) ⌝ }
-    ensures { λ r. ⌜ now (out .exit) ≡ innerLine filter (wholeOf filter (length (now (out .entry)))) (length (now (out .entry))) (now (s .entry)) at sp ⌝ }
+fn inner_line(filter: ReduceFilter, out: &mut [u8], s: &[u8], at: usize, src_pitch: usize)
+    requires { ⌜ (2 * «src_pitch» ≤ at) × (at + lastRow filter * «src_pitch» + length (now out) ≤ length (now s)) ⌝ }
+    ensures { λ r. ⌜ now (out .exit) ≡ innerLine filter (wholeOf filter (length (now (out .entry)))) (length (now (out .entry))) (now (s .entry)) at «src_pitch» ⌝ }
 {
     let n = out.len();
     let whole = whole_columns(filter, n);
-    whole_line(filter, &mut out[..whole], s, at, sp);
+    whole_line(filter, &mut out[..whole], s, at, src_pitch);
     if whole == n {
         return;
     }
-    rest_line(&mut out[whole..], s, at + whole, sp);
+    rest_line(&mut out[whole..], s, at + whole, src_pitch);
 }
 
-// Target row y of h, from the source rows that lie sp apart from base.
+// Target row y of h, from the source rows that lie src_pitch apart from base.
 pub fn vertical_line(
     filter: ReduceFilter,
     out: &mut [u8],
     s: &[u8],
     base: usize,
-    sp: usize,
+    src_pitch: usize,
     h: usize,
     y: usize,
 )
-    requires { ⌜ Source (length (now s)) base sp (length (now out)) h × (y < h) ⌝ }
-    ensures { λ r. ⌜ now (out .exit) ≡ verticalLine filter (wholeOf filter (length (now (out .entry)))) (length (now (out .entry))) h (now (s .entry)) base sp y ⌝ }
+    requires { ⌜ Source (length (now s)) base «src_pitch» (length (now out)) h × (y < h) ⌝ }
+    ensures { λ r. ⌜ now (out .exit) ≡ verticalLine filter (wholeOf filter (length (now (out .entry)))) (length (now (out .entry))) h (now (s .entry)) base «src_pitch» y ⌝ }
 {
-    let at = base + y * (2 * sp);
+    let at = base + y * (2 * src_pitch);
     if filter.vertical_edge(y, h) {
         let n = out.len();
         let c0 = span(s, at, n);
-        let p1 = span(s, at + sp, n);
+        let p1 = span(s, at + src_pitch, n);
         mean_row(out, c0, p1);
         return;
     }
-    inner_line(filter, out, s, at, sp);
+    inner_line(filter, out, s, at, src_pitch);
 }

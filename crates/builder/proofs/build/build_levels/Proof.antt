@@ -24,7 +24,7 @@ returns : tie.Need-returns
 returns c =
     let at-naturals = c .before .before in
     let a = at-naturals .before .before .before .before .before .before .args in
-    no-level (a .layout) (now (a .src)) (now (a .frame) ++ now (a .spill)) (a .sp) _ (sym (count at-naturals) ∙ c .if1 .taken)
+    no-level (a .layout) (now (a .src)) (now (a .frame) ++ now (a .spill)) (a .src-pitch) _ (sym (count at-naturals) ∙ c .if1 .taken)
 
 copy-rows-requires : tie.Need-copy-rows-requires
 copy-rows-requires c κs = (some (c .before), ready-lent (c .before .before .before .before .before .before .before .before .before .pre) refl (omega arith) (omega arith))

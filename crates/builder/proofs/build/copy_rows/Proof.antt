@@ -28,7 +28,7 @@ full : (c : tie.Else1 Inv-loop μ-loop) → c .before .before .before .before .b
 full c = not-false (c .before .before .before .before .before .args .layout .opts .full) (c .if1 .left)
 
 -- the rows of this turn
-rows : (c : tie.In-loop Inv-loop μ-loop) → (c .before .loop .y * c .before .before .before .before .before .before .before .before .before .args .layout .pitch + c .before .before .before .width .result ≤ length (c .before .loop .frame)) × (c .before .loop .y * c .before .before .before .before .before .before .before .before .before .args .sp + c .before .before .before .width .result ≤ length (now (c .before .before .before .before .before .before .before .before .before .args .src)))
+rows : (c : tie.In-loop Inv-loop μ-loop) → (c .before .loop .y * c .before .before .before .before .before .before .before .before .before .args .layout .pitch + c .before .before .before .width .result ≤ length (c .before .loop .frame)) × (c .before .loop .y * c .before .before .before .before .before .before .before .before .before .args .src-pitch + c .before .before .before .width .result ≤ length (now (c .before .before .before .before .before .before .before .before .before .args .src)))
 rows c =
     let at-width = c .before .before .before in
     let entered = at-width .before .before .before .before .before .before in
@@ -40,7 +40,7 @@ rows c =
     (omega (arith, w, c .before .loop .inv .same, target-row q (allowed q (r .layout)) _ (entered .pre .0) (r .end) (full (at-width .before)) y lt), omega (arith, w, source-row q r (entered .pre .0) y lt))
 
 -- the source's row of this turn
-taken : (c : tie.After-source-row Inv-loop μ-loop) → now (c .source-row .result) ≡ fetch (now (c .before .before .before .before .before .before .before .before .before .before .before .before .args .src)) (c .before .before .before .before .loop .y * c .before .before .before .before .before .before .before .before .before .before .before .before .args .sp) (c .before .before .before .before .before .before .width .result)
+taken : (c : tie.After-source-row Inv-loop μ-loop) → now (c .source-row .result) ≡ fetch (now (c .before .before .before .before .before .before .before .before .before .before .before .before .args .src)) (c .before .before .before .before .loop .y * c .before .before .before .before .before .before .before .before .before .before .before .before .args .src-pitch) (c .before .before .before .before .before .before .width .result)
 taken c = c .source-row .ensures ∙ cond-yes _ _ _ (lt-ltb _ _ (c .before .before .before .loop-test .taken))
 
 returns : tie.Need-returns Inv-loop μ-loop
@@ -87,7 +87,7 @@ returns-2 c =
     let a = at-width .before .before .before .before .before .before .args in
     let q = a .layout in
     let F = now (a .frame) in
-    let row : ℕ → ℕ → List ℕ → List ℕ = λ w i d. put d (i * q .pitch) (fetch (now (a .src)) (i * a .sp) w) in
+    let row : ℕ → ℕ → List ℕ → List ℕ = λ w i d. put d (i * q .pitch) (fetch (now (a .src)) (i * a .src-pitch) w) in
     walked-whole (c .before .loop .inv) (c .loop-test .left)
     ∙ ap (λ (k : ℕ). steps (row k) (c .before .before .height .result) F) (at-width .width .ensures)
     ∙ ap (λ (k : ℕ). steps (row (widthAt q 0)) k F) (c .before .before .height .ensures)

@@ -43,7 +43,7 @@ loop-again c =
     let a = c .before .before .before .before .before .before .before .before .before .before .before .before .before .before .before .before .before .before .args in
     let l = c .before .before .before .before .before .before .before .before .before .before .before .loop in
     let r = c .before .before .before .before .before .before .reduce in
-    (omega arith, passed-next (halveLevel (a .layout) (now (a .src)) (a .sp) (length (now (a .frame))) (a .filter)) (l .inv .0) (l .inv .1) (c .before .before .before .before .before .before .before .before .before .before .loop-test .taken) (r .kept .1 .0) (r .kept .1 .1 .0) (r .kept .1 .1 .1 .0) (r .ensures ∙ ap (λ (k : ℕ). halveLevel (a .layout) (now (a .src)) (a .sp) k (a .filter) (l .level) (l .frame ++ l .spill)) (l .inv .1 .frame)))
+    (omega arith, passed-next (halveLevel (a .layout) (now (a .src)) (a .src-pitch) (length (now (a .frame))) (a .filter)) (l .inv .0) (l .inv .1) (c .before .before .before .before .before .before .before .before .before .before .loop-test .taken) (r .kept .1 .0) (r .kept .1 .1 .0) (r .kept .1 .1 .1 .0) (r .ensures ∙ ap (λ (k : ℕ). halveLevel (a .layout) (now (a .src)) (a .src-pitch) k (a .filter) (l .level) (l .frame ++ l .spill)) (l .inv .1 .frame)))
 
 same-length : tie.Need-same-length Inv-loop μ-loop
 same-length c = c .before .loop .inv .1 .frame
@@ -60,7 +60,7 @@ returns c =
     let a = c .before .before .before .before .before .before .before .before .args in
     let n = ap (λ (x : Naturals). x .levels) (c .before .before .naturals .ensures) in
     walked-whole (c .before .loop .inv .1 .walk) (omega (arith, c .loop-test .left))
-    ∙ ap (λ (k : ℕ). steps (λ i. halveLevel (a .layout) (now (a .src)) (a .sp) (length (now (a .frame))) (a .filter) (i + 1)) (k - 1) (now (a .frame) ++ now (a .spill))) n
+    ∙ ap (λ (k : ℕ). steps (λ i. halveLevel (a .layout) (now (a .src)) (a .src-pitch) (length (now (a .frame))) (a .filter) (i + 1)) (k - 1) (now (a .frame) ++ now (a .spill))) n
 
 pub reduce-each-spec : {M : Type 1} → statement M
 reduce-each-spec =

@@ -58,7 +58,7 @@ returns c =
     let a = s .args in
     c .before .before .before .before .before .before .store .ensures
     ∙ ap (put (now (a .frame) ++ now (a .spill)) (a .target .offset + a .y * (2 * a .pitch)))
-    (c .before .before .before .before .before .before .before .before .before .before .before .before .before .vertical-line .ensures ∙ ap (λ (n : ℕ). verticalLine (a .filter) (wholeOf (a .filter) n) n (a .target .height) (now (a .src)) 0 (a .sp) (a .y)) (spread-line (now (a .scratch)) (s .pre .0)))
+    (c .before .before .before .before .before .before .before .before .before .before .before .before .before .vertical-line .ensures ∙ ap (λ (n : ℕ). verticalLine (a .filter) (wholeOf (a .filter) n) n (a .target .height) (now (a .src)) 0 (a .src-pitch) (a .y)) (spread-line (now (a .scratch)) (s .pre .0)))
 
 pub spread-vertical-row-spec : {M : Type 1} → statement M
 spread-vertical-row-spec =

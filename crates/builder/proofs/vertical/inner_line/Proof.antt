@@ -37,7 +37,7 @@ returns : tie.Need-returns
 returns c =
     let a = c .before .before .before .before .before .before .before .before .args in
     let w = c .before .before .before .before .before .whole-columns in
-    inner-all (a .filter) (now (a .s)) (a .at) (a .sp) (now (a .out)) _ (w .result) (w .ensures .0) (w .ensures .1) (c .before .before .before .whole-line .ensures) (c .if1 .taken)
+    inner-all (a .filter) (now (a .s)) (a .at) (a .src-pitch) (now (a .out)) _ (w .result) (w .ensures .0) (w .ensures .1) (c .before .before .before .whole-line .ensures) (c .if1 .taken)
 
 sub-rest-line : tie.Need-sub-rest-line
 sub-rest-line c = search needs
@@ -58,7 +58,7 @@ rest-line-requires c κs =
     let l = c .before .before .before .before .whole-line in
     let front = l .kept .1 .0 ∙ length-take-le (w .result) (now (a .args .out)) (w .ensures .1) in
     let rest = rest-length (now (a .args .out)) (l .last .1 .0) (l .last .1 .0) (w .result) (w .ensures .1) front in
-    (omega (arith, a .pre), omega (arith, a .pre, w .ensures .1, rest, rest-reach (a .args .filter) (length (now (a .args .out))) (a .args .sp) (w .ensures .0) (c .before .if1 .left)))
+    (omega (arith, a .pre), omega (arith, a .pre, w .ensures .1, rest, rest-reach (a .args .filter) (length (now (a .args .out))) (a .args .src-pitch) (w .ensures .0) (c .before .if1 .left)))
 
 same-length-2 : tie.Need-same-length-2
 same-length-2 c =
@@ -75,7 +75,7 @@ returns-2 : tie.Need-returns-2
 returns-2 c =
     let a = c .before .before .before .before .before .before .before .before .before .before .before .before .args in
     let w = c .before .before .before .before .before .before .before .before .before .whole-columns in
-    inner-both (a .filter) (now (a .s)) (a .at) (a .sp) (now (a .out)) _ (w .result) (w .ensures .0) (w .ensures .1) (c .before .before .before .before .before .before .before .whole-line .ensures) _ (c .before .before .rest-line .ensures)
+    inner-both (a .filter) (now (a .s)) (a .at) (a .src-pitch) (now (a .out)) _ (w .result) (w .ensures .0) (w .ensures .1) (c .before .before .before .before .before .before .before .whole-line .ensures) _ (c .before .before .rest-line .ensures)
 
 pub inner-line-spec : {M : Type 1} → statement M
 inner-line-spec =

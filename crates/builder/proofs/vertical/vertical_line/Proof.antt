@@ -12,7 +12,7 @@ use Rattle.builder.proofs.vertical.vertical_line.Statement.{statement}
 use Rattle.builder.proofs.vertical.vertical_line.Tie as tie
 
 mul-at : tie.Need-mul-at
-mul-at c = omega (arith, edge-reach (c .before .before .pre .0) (c .before .before .pre .1), row-in (c .before .before .args .y) (c .before .before .args .h) (2 * c .before .before .args .sp) (c .before .before .pre .1), c .before .before .pre .0 .rows)
+mul-at c = omega (arith, edge-reach (c .before .before .pre .0) (c .before .before .pre .1), row-in (c .before .before .args .y) (c .before .before .args .h) (2 * c .before .before .args .src-pitch) (c .before .before .pre .1), c .before .before .pre .0 .rows)
 
 mul-at-2 : tie.Need-mul-at-2
 mul-at-2 c = omega (arith, edge-reach (c .before .before .pre .0) (c .before .before .pre .1))
@@ -43,7 +43,7 @@ returns c =
     let a = c .before .before .before .before .before .before .before .before .before .before .args in
     let n = length (now (a .out)) in
     c .before .before .mean-row .ensures
-    ∙ line-edge (a .filter) (wholeOf (a .filter) n) n (a .h) (now (a .s)) (a .base) (a .sp) (a .y) (sym (c .before .before .before .before .before .before .before .vertical-edge .ensures) ∙ c .before .before .before .before .before .before .if1 .taken) (c .before .before .before .before .before .span .ensures .0) (c .before .before .before .before .span2 .ensures .0)
+    ∙ line-edge (a .filter) (wholeOf (a .filter) n) n (a .h) (now (a .s)) (a .base) (a .src-pitch) (a .y) (sym (c .before .before .before .before .before .before .before .vertical-edge .ensures) ∙ c .before .before .before .before .before .before .if1 .taken) (c .before .before .before .before .before .span .ensures .0) (c .before .before .before .before .span2 .ensures .0)
 
 inner-line-requires : tie.Need-inner-line-requires
 inner-line-requires c κs =
@@ -58,7 +58,7 @@ returns-2 c =
     let a = c .before .before .before .before .before .before .before .before .args in
     let n = length (now (a .out)) in
     c .before .before .inner-line .ensures
-    ∙ line-inner (a .filter) (wholeOf (a .filter) n) n (a .h) (now (a .s)) (a .base) (a .sp) (a .y) (sym (c .before .before .before .before .before .vertical-edge .ensures) ∙ c .before .before .before .before .if1 .left)
+    ∙ line-inner (a .filter) (wholeOf (a .filter) n) n (a .h) (now (a .s)) (a .base) (a .src-pitch) (a .y) (sym (c .before .before .before .before .before .vertical-edge .ensures) ∙ c .before .before .before .before .if1 .left)
 
 pub vertical-line-spec : {M : Type 1} → statement M
 vertical-line-spec =
