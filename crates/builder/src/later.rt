@@ -13,7 +13,7 @@ use crate::halving::reduce_within;
 use crate::layout::Layout;
 use crate::levels::offset;
 use crate::levels::region;
-use crate::margins::fused;
+use crate::margins::is_fused;
 use crate::separate::reduce_separate;
 use filters::halving::Chosen;
 use filters::halving::ReduceFilter;
@@ -35,7 +35,7 @@ fn reduce(
     let pitch = layout.pitch;
     let base = offset(layout, level - 1);
     let target = region(layout, level);
-    if fused(layout, level, frame.len()) {
+    if is_fused(layout, level, frame.len()) {
         reduce_cubic(frame, scratch, base, pitch, target);
         return;
     }

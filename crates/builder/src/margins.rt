@@ -35,7 +35,7 @@ fn cubic_fits(base: usize, pitch: usize, target: Region, len: usize) -> bool
 }
 
 // Whether a later level is halved by the fused cubic, in a frame of len bytes.
-pub(crate) fn fused(layout: Layout, level: u32, len: usize) -> bool
+pub(crate) fn is_fused(layout: Layout, level: u32, len: usize) -> bool
     requires { ⌜ (layoutNo layout ≡ 0) × (1 ≤ level) × (level < levelsOf layout) ⌝ }
     ensures { λ r. ⌜ r ≡ fusedAt layout len level ⌝ }
 {
@@ -61,7 +61,7 @@ fn clear_level(frame: &mut [u8], layout: Layout, level: u32)
     requires { ⌜ (layoutNo layout ≡ 0) × (1 ≤ level) × (level < levelsOf layout) × (writtenEnd layout ≤ length (now frame)) ⌝ }
     ensures { λ r. ⌜ now (frame .exit) ≡ clearLevel layout level (now (frame .entry)) ⌝ }
 {
-    if fused(layout, level, frame.len()) {
+    if is_fused(layout, level, frame.len()) {
         return;
     }
     let target = region(layout, level);

@@ -13,15 +13,15 @@ use Rattle.builder.proofs.Layouts.{allowed, region-there, level-end, by
 use Rattle.builder.proofs.margins.clear_level.Statement.{statement}
 use Rattle.builder.proofs.margins.clear_level.Tie as tie
 
-fused-requires : tie.Need-fused-requires
-fused-requires c κs = search needs
+is-fused-requires : tie.Need-is-fused-requires
+is-fused-requires c κs = search needs
 
 returns : tie.Need-returns
 unfolding clearLevel
 returns c =
     let s = c .before .before .before .args in
     let f = now (s .frame) in
-    sym (cond-yes (fusedAt (s .layout) (length f) (s .level)) f (clearRows (regionAt (s .layout) (s .level)) (s .layout .pitch) f) (sym (c .before .fused .ensures) ∙ c .if1 .taken))
+    sym (cond-yes (fusedAt (s .layout) (length f) (s .level)) f (clearRows (regionAt (s .layout) (s .level)) (s .layout .pitch) f) (sym (c .before .is-fused .ensures) ∙ c .if1 .taken))
 
 region-requires : tie.Need-region-requires
 region-requires c κs = search needs
@@ -47,9 +47,9 @@ returns-2 c =
     let t = c .before .before .before .before .region .ensures ∙ region-there q l (s .pre .2) in
     c .before .before .clear-rows .ensures
     ∙ ap (λ (x : Region). clearRows x (q .pitch) f) t
-    ∙ sym (cond-no (fusedAt q (length f) l) f (clearRows (regionAt q l) (q .pitch) f) (sym (c .before .before .before .before .before .before .fused .ensures) ∙ c .before .before .before .before .before .if1 .left))
+    ∙ sym (cond-no (fusedAt q (length f) l) f (clearRows (regionAt q l) (q .pitch) f) (sym (c .before .before .before .before .before .before .is-fused .ensures) ∙ c .before .before .before .before .before .if1 .left))
 
 pub clear-level-spec : {M : Type 1} → statement M
 clear-level-spec =
     tie.close
-    (tie.spec fused-requires returns region-requires clear-rows-requires same-length returns-2)
+    (tie.spec is-fused-requires returns region-requires clear-rows-requires same-length returns-2)

@@ -1,4 +1,4 @@
--- `fused` meets its contract. Assumes nothing.
+-- `is_fused` meets its contract. Assumes nothing.
 use mathlib.Core.Path.{ap, _∙_}
 use Prim.Native.Nat.{_-_, _<_}
 use native.Mathlib.Omega.{arith}
@@ -8,8 +8,8 @@ use Rattle.settings.proofs.Integers.{is-by-bits}
 use Rattle.builder.specs.declared.layout.Region.{Region}
 use Rattle.builder.specs.Margins.{fusedAt}
 use Rattle.builder.proofs.Layouts.{allowed, levels-le, region-there, height-le, width-le, offset-le}
-use Rattle.builder.proofs.margins.fused.Statement.{statement}
-use Rattle.builder.proofs.margins.fused.Tie as tie
+use Rattle.builder.proofs.margins.is_fused.Statement.{statement}
+use Rattle.builder.proofs.margins.is_fused.Tie as tie
 
 sub-offset : tie.Need-sub-offset
 sub-offset c = search needs
@@ -43,6 +43,6 @@ returns c =
     let t = k .before .region .ensures ∙ region-there q (s .args .level) (s .pre .2) in
     rw (is-by-bits (q .opts .«scale_down») 4 (search needs) (lit< tt), k .cubic-fits .ensures, k .before .before .offset .ensures, t)
 
-pub fused-spec : {M : Type 1} → statement M
-fused-spec =
+pub is-fused-spec : {M : Type 1} → statement M
+is-fused-spec =
     tie.close (tie.spec sub-offset offset-requires region-requires cubic-fits-requires returns)
