@@ -36,9 +36,9 @@ impl CatmullRom {
     fn apply(m1: u8, c0: u8, p1: u8, p2: u8) -> u8
         ensures { λ r. ⌜ r ≡ halfPel HalfPel.CatmullRom 0 m1 c0 p1 p2 0 ⌝ }
     {
-        let up = 9 * ((c0 as u16) + (p1 as u16)) + CatmullRom::ROUND;
-        let down = (m1 as u16) + (p2 as u16);
-        held(excess(up, down) >> 4)
+        let plus = 9 * ((c0 as u16) + (p1 as u16)) + CatmullRom::ROUND;
+        let minus = (m1 as u16) + (p2 as u16);
+        held(excess(plus, minus) >> 4)
     }
 }
 
@@ -52,20 +52,20 @@ impl Wiener {
     fn apply(m2: u8, m1: u8, c0: u8, p1: u8, p2: u8, p3: u8) -> u8
         ensures { λ r. ⌜ r ≡ halfPel HalfPel.Wiener m2 m1 c0 p1 p2 p3 ⌝ }
     {
-        let up = (m2 as u16) + 20 * ((c0 as u16) + (p1 as u16)) + (p3 as u16) + Wiener::ROUND;
-        let down = 5 * ((m1 as u16) + (p2 as u16));
-        held(excess(up, down) >> 5)
+        let plus = (m2 as u16) + 20 * ((c0 as u16) + (p1 as u16)) + (p3 as u16) + Wiener::ROUND;
+        let minus = 5 * ((m1 as u16) + (p2 as u16));
+        held(excess(plus, minus) >> 5)
     }
 }
 
-// By how much up exceeds down.
-fn excess(up: u16, down: u16) -> u16
-    ensures { λ r. ⌜ r ≡ up - down ⌝ }
+// By how much plus exceeds minus; 0 where minus is larger, as a result is held to 0..255.
+fn excess(plus: u16, minus: u16) -> u16
+    ensures { λ r. ⌜ r ≡ plus - minus ⌝ }
 {
-    if up < down {
+    if plus < minus {
         return 0;
     }
-    up - down
+    plus - minus
 }
 
 fn held(v: u16) -> u8

@@ -3,26 +3,26 @@ use borrow.Author.Needs.{needs}
 use Rattle.filters.proofs.half_pel.Wiener.apply.Statement.{statement}
 use Rattle.filters.proofs.half_pel.Wiener.apply.Tie as tie
 
-add-up : tie.Need-add-up
-add-up c = search needs
+add-plus : tie.Need-add-plus
+add-plus c = search needs
 
-mul-up : tie.Need-mul-up
-mul-up c = search needs
+mul-plus : tie.Need-mul-plus
+mul-plus c = search needs
 
-add-up-2 : tie.Need-add-up-2
-add-up-2 c = search needs
+add-plus-2 : tie.Need-add-plus-2
+add-plus-2 c = search needs
 
-add-up-3 : tie.Need-add-up-3
-add-up-3 c = search needs
+add-plus-3 : tie.Need-add-plus-3
+add-plus-3 c = search needs
 
-add-up-4 : tie.Need-add-up-4
-add-up-4 c = search needs
+add-plus-4 : tie.Need-add-plus-4
+add-plus-4 c = search needs
 
-add-down : tie.Need-add-down
-add-down c = search needs
+add-minus : tie.Need-add-minus
+add-minus c = search needs
 
-mul-down : tie.Need-mul-down
-mul-down c = search needs
+mul-minus : tie.Need-mul-minus
+mul-minus c = search needs
 
 excess-requires : tie.Need-excess-requires
 excess-requires c κs = tt
@@ -37,13 +37,13 @@ pub apply-spec : {M : Type 1} → statement M
 apply-spec =
     tie.close
     (tie.spec
-    add-up
-    mul-up
-    add-up-2
-    add-up-3
-    add-up-4
-    add-down
-    mul-down
+    add-plus
+    mul-plus
+    add-plus-2
+    add-plus-3
+    add-plus-4
+    add-minus
+    mul-minus
     excess-requires
     held-requires
     returns)
