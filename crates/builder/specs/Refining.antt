@@ -41,28 +41,28 @@ verticalPlane k i t s c = steps (λ y d. put d (t + y * i .pitch) (verticalRun k
 abbrev pub planeAt : Interp → ℕ → ℕ
 planeAt i k = k * (i .height * i .pitch)
 
--- "Horizontal, vertical, diagonal planes are" a, b, d
+-- "Horizontal, vertical, diagonal planes are" these three, by number
 -- "horizontal from 0 and 0 + 1; vertical from 0 and 0 + pitch, then its first row copied from plane 0; diagonal from 0 and 0 + pitch + 1, then its first row copied from 0 + 1"
 unfoldable pub meanPlanes : Interp → ℕ → ℕ → ℕ → List ℕ → List ℕ
-meanPlanes i a b d c =
+meanPlanes i horizontal vertical diagonal c =
     c
-    ▷ pairPlane i (planeAt i a) 0 1
-    ▷ pairPlane i (planeAt i b) 0 (i .pitch)
-    ▷ copyRun 0 (planeAt i b) (i .width)
-    ▷ pairPlane i (planeAt i d) 0 (i .pitch + 1)
-    ▷ copyRun 1 (planeAt i d) (i .width)
+    ▷ pairPlane i (planeAt i horizontal) 0 1
+    ▷ pairPlane i (planeAt i vertical) 0 (i .pitch)
+    ▷ copyRun 0 (planeAt i vertical) (i .width)
+    ▷ pairPlane i (planeAt i diagonal) 0 (i .pitch + 1)
+    ▷ copyRun 1 (planeAt i diagonal) (i .width)
 
 -- "The diagonal is horizontal over the vertical plane."
 unfoldable pub kernelPlanes : HalfPel → Interp → ℕ → ℕ → ℕ → List ℕ → List ℕ
-kernelPlanes k i a b d c =
+kernelPlanes k i horizontal vertical diagonal c =
     c
-    ▷ horizontalPlane k i (planeAt i a) 0
-    ▷ verticalPlane k i (planeAt i b) 0
-    ▷ horizontalPlane k i (planeAt i d) (planeAt i b)
+    ▷ horizontalPlane k i (planeAt i horizontal) 0
+    ▷ verticalPlane k i (planeAt i vertical) 0
+    ▷ horizontalPlane k i (planeAt i diagonal) (planeAt i vertical)
 
 unfoldable pub halfPlanes : Upscale → Interp → ℕ → ℕ → ℕ → List ℕ → List ℕ
-halfPlanes Means i a b d c = meanPlanes i a b d c
-halfPlanes (Kernel k) i a b d c = kernelPlanes k i a b d c
+halfPlanes Means i horizontal vertical diagonal c = meanPlanes i horizontal vertical diagonal c
+halfPlanes (Kernel k) i horizontal vertical diagonal c = kernelPlanes k i horizontal vertical diagonal c
 
 -- ---- "Pel 4 then makes these pairs in order, target : left, right": `+1 .. s` is across 1, `+pitch .. t` is below 1
 abbrev pub pairOf : ℕ → ℕ → ℕ → ℕ → ℕ → Pair
@@ -86,15 +86,15 @@ pairs =
 
 -- "s is one column fewer before rounding up, t one row fewer"
 unfoldable pub quarter : Interp → Pair → List ℕ → List ℕ
-quarter i q c =
-    pairPlane (record { pitch = i .pitch; width = i .width - q .across; height = i .height - q .below })
-    (planeAt i (q .target))
-    (planeAt i (q .left) + q .across + q .below * i .pitch)
-    (planeAt i (q .right)) c
+quarter i pair c =
+    pairPlane (record { pitch = i .pitch; width = i .width - pair .across; height = i .height - pair .below })
+    (planeAt i (pair .target))
+    (planeAt i (pair .left) + pair .across + pair .below * i .pitch)
+    (planeAt i (pair .right)) c
 
 unfoldable pub foldPairs : (Pair → List ℕ → List ℕ) → List Pair → List ℕ → List ℕ
 foldPairs step [] c = c
-foldPairs step (q ∷ qs) c = foldPairs step qs (step q c)
+foldPairs step (pair ∷ rest) c = foldPairs step rest (step pair c)
 
 -- "planes are 1, 2, 3 at pel 2 and 2, 8, 10 at pel 4". A plane is refined only where pel > 1 and the record is accepted, so that a pel that isn't 2 is 4
 unfoldable pub refine : Interp → ℕ → Upscale → List ℕ → List ℕ

@@ -82,18 +82,18 @@ pub record FirstRow (k r s : ℕ) (i : Interp) : Type 0 where
   pub near : r ≤ i .pitch + 1
   pub first : s ≤ 1
 
--- the horizontal, vertical and diagonal plane, of which d is the last
-pub record Halves (a b d : ℕ) : Type 0 where
-  pub across : a ≤ d
-  pub down : 1 ≤ b
-  pub below : b ≤ d
-  pub some : 2 ≤ d
-  pub most : d ≤ 15
+-- the numbers of the planes at half places, of which the diagonal one is the last
+pub record Halves (horizontal vertical diagonal : ℕ) : Type 0 where
+  pub across : horizontal ≤ diagonal
+  pub down : 1 ≤ vertical
+  pub below : vertical ≤ diagonal
+  pub some : 2 ≤ diagonal
+  pub most : diagonal ≤ 15
 
 -- a pair of 16 planes: one follows the left, so that it can be read further on
-pub record Quarter (q : Pair) : Type 0 where
-  pub target : q .target ≤ 15
-  pub left : q .left ≤ 14
-  pub right : q .right ≤ 15
-  pub across : q .across ≤ 1
-  pub below : q .below ≤ 1
+pub record Quarter (pair : Pair) : Type 0 where
+  pub target : pair .target ≤ 15
+  pub left : pair .left ≤ 14
+  pub right : pair .right ≤ 15
+  pub across : pair .across ≤ 1
+  pub below : pair .below ≤ 1
