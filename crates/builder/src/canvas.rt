@@ -87,7 +87,7 @@ pub fn window<'a>(
     fetched(frame, spill, scratch, start, n)
 }
 
-// row at start of c, in which it lies.
+// For a row that lies in c whole; `store` is for one that may leave the frame.
 pub fn put(c: &mut [u8], start: usize, row: &[u8])
     requires { ⌜ start + length (now row) ≤ length (now c) ⌝ }
     ensures { λ r. ⌜ now (c .exit) ≡ put (now (c .entry)) start (now (row .entry)) ⌝ }

@@ -286,7 +286,7 @@ impl SuperOpts {
     }
 }
 
-// Fields side by side.
+// A sum, where the Rust has shifts and `|`: each field is below the place of the next, so that both give one number. `levels` comes with the level flags, in its bits 6 and 7.
 fn joined(height: u64, width: u64, pel: u64, levels: u64, gpu: u64, flags: u64) -> u64
     requires { ⌜ (height < 2 ^ 16) × (width < 2 ^ 16) × (pel < 2 ^ 8) × (levels < 2 ^ 8) × (gpu < 2 ^ 8) × (flags < 2 ^ 8) ⌝ }
     ensures { λ r. ⌜ r ≡ height + 2 ^ 16 * width + 2 ^ 32 * pel + 2 ^ 40 * levels + 2 ^ 48 * gpu + 2 ^ 56 * flags ⌝ }
@@ -330,7 +330,7 @@ fn auto_levels(width: u32, height: u32) -> u32
     }
 }
 
-// Rows of a frame.
+// Of a record that isn't lean: `super_height` has answered a lean one before.
 fn super_plane_height(base_w: u32, base_h: u32, pel: u32, levels: u32, full: bool) -> u32
     requires { ⌜ («base_w» ≤ mostSide) × («base_h» ≤ mostSide) × (pel ≤ 4) × (levels ≤ mostLevels) ⌝ }
     ensures { λ r. ⌜ (r ≡ cond full (fullHeight «base_h» pel levels) (packedHeight «base_w» «base_h»)) × (r < 2 ^ 31) ⌝ }
