@@ -20,9 +20,10 @@ use Rattle.settings.proofs.Heights.{prod-le, reduced-le, total-le, total-suc}
 use Rattle.settings.proofs.Known.{given, number-then}
 use Rattle.settings.proofs.Accepted.{within}
 use Rattle.builder.specs.declared.layout.Layout.{Layout}
-use Rattle.builder.specs.Layout.{levelsOf, mostOffset, writtenEnd, rowStart, regionAt, regionOr, noRegion, widthAt, heightAt, storedAt, bytesAt, offsetAt}
+use Rattle.builder.specs.Layout.{levelsOf, writtenEnd, rowStart, regionAt, regionOr, noRegion, widthAt, heightAt, storedAt, bytesAt, offsetAt}
 use Rattle.builder.specs.Numbers.{leastPitch, badPitch, layoutNo, frameNo, noRow, rowNo}
 use Rattle.builder.specs.Answers.{endAnswer}
+use Rattle.builder.specs.Room.{mostOffset}
 use Rattle.builder.proofs.Choices.{cond-yes}
 use Rattle.builder.proofs.Runs.{row-in}
 

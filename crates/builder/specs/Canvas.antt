@@ -1,5 +1,6 @@
 -- Document 01, "How a plane is built": a frame and its spill as one list, the canvas. Reading past it gives 0.
 -- Places are natural numbers, so that reading before it can't be asked.
+-- First what is read and what is stored; then steps in order, and a run copied; last stages one after the other.
 use Prim.Native.Nat.{ℕ, zero, suc, _-_}
 use mathlib.Core.List.{List, _++_}
 use lib.ListN.{getD, take, drop, length, replicate}

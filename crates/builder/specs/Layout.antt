@@ -1,14 +1,15 @@
 -- Document 01, "Settings and sizes": a plane's levels, and where they lie.
+-- First a level's size, planes and bytes; then where a level lies, its region, and where a row starts; last what a build needs of spill and scratch.
 use Prim.Native.Nat.{ℕ, zero, suc, _+_, _*_, _/_, _^_}
 use mathlib.Core.Bool.{cond}
 use lib.Dec.{ltb, leb}
-use Rattle.settings.specs.Limits.{mostSide, mostPitch, mostLevels}
 use Rattle.settings.specs.Numbers.{total}
 use Rattle.settings.specs.Sizes.{reduced}
 use Rattle.settings.specs.Check.{pelOf, lumaW, lumaH, levelCount}
 use Rattle.builder.specs.declared.layout.Layout.{Layout}
 use Rattle.builder.specs.declared.layout.Region.{Region}
 
+-- "how many of the sizes at 0, 1, 2.. reductions have both sides at least 4, stopping at the first that has not": an accepted record has that count
 abbrev pub levelsOf : Layout → ℕ
 levelsOf q = levelCount (q .opts)
 
@@ -39,7 +40,7 @@ writtenEnd q = offsetAt q (levelsOf q)
 abbrev pub noRegion : Region
 noRegion = record { offset = 0; width = 0; height = 0 }
 
--- without full, level 0 has its size and offset 0, though none of it is stored
+-- "A plane's level has width (reduced luma width) >> x shift, height alike", at its offset; without full, level 0 has its size and offset 0, though none of it is stored
 abbrev pub regionAt : Layout → ℕ → Region
 regionAt q l = record { offset = offsetAt q l; width = widthAt q l; height = heightAt q l }
 
@@ -47,13 +48,9 @@ regionAt q l = record { offset = offsetAt q l; width = widthAt q l; height = hei
 abbrev pub regionOr : Layout → ℕ → Region
 regionOr q l = cond (ltb l (levelsOf q)) (regionAt q l) noRegion
 
--- where row y of plane k of level l starts
+-- "Levels follow each other; a plane takes height * pitch bytes": where row y of plane k of level l starts, past the planes and rows before it
 abbrev pub rowStart : Layout → ℕ → ℕ → ℕ → ℕ
 rowStart q l k y = offsetAt q l + (k * heightAt q l + y) * q .pitch
-
--- what no offset of an accepted layout exceeds
-abbrev pub mostOffset : ℕ
-mostOffset = mostLevels * (16 * mostSide * mostPitch)
 
 -- "level 1's height * pitch if not full and levels are 2 or more, else 16"
 abbrev pub spillNeed : Layout → ℕ

@@ -1,4 +1,5 @@
 -- Document 01, "Fused cubic": which levels are fused, and the margins of those that aren't.
+-- First when the fused cubic fits, and where it is taken; then a level's margins; last those of all later levels.
 use Prim.Native.Nat.{ℕ, _+_, _*_, _-_, _%_}
 use mathlib.Core.Bool.{Bool, cond, _&&_, _||_}
 use mathlib.Core.List.{List}

@@ -1,4 +1,5 @@
 -- Document 01, "Numbers a call can give": 6 to 13 and 19, in order, for each call.
+-- First a layout's, by its pitch; then those of a frame, and of a row in it; last a build's, by what it is lent.
 use Prim.Native.Nat.{ℕ, _+_, _*_, _-_}
 use mathlib.Core.Bool.{Bool, cond, _||_}
 use lib.Dec.{ltb, leb, eqb}
