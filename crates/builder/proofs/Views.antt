@@ -1,5 +1,5 @@
--- The view `Level0`, of which row y is asked, and the plain parameters that stand for both: what is passed of them, and what that owns. `Level0::row` and `source_row` are proved by hand over these; each has one of the two forms and calls the other.
--- First the contract's words; then each form; last one form's from the other's. The laws take `Given`.
+-- The view `Level0`, of which row y is asked, and the plain parameters that stand for both: what is passed of them, and what that owns. `Level0::row` and `source_row` are proved by hand over these; each has one of the two forms and calls the other. Assumes nothing.
+-- First the contract's words; then each form; last one form's from the other's. The laws take `Given`, as a walk does.
 use mathlib.Core.Path.{_≡_, refl}
 use Prim.Native.Nat.{ℕ, _+_, _*_, _≤_, _<_, _^_}
 use mathlib.Core.Bool.{cond}
