@@ -16,9 +16,10 @@ use crate::layout::Region;
 use crate::vertical::vertical_line;
 use filters::halving::ReduceFilter;
 use filters::halving::deinterleave;
+use settings::limits::MOST_SIDE;
 
 // The most bytes of a row taken apart, 2 more than those of the row: twice level 1's width is at most the width of the widest picture.
-const MOST_SPLIT: usize = 16386;
+const MOST_SPLIT: usize = MOST_SIDE as usize + 2;
 
 fn spread_vertical_row(
     filter: ReduceFilter,

@@ -7,7 +7,8 @@ use settings::text::line_end;
 use settings::text::line_out;
 
 pub fn answer_input() {
-    let mut input = [0u8; 65537];
+    // A byte more than is taken tells an input that is too long.
+    let mut input = [0u8; MOST_INPUT + 1];
     let n = io::read_full(STDIN_FILENO, &mut input);
     if n > MOST_INPUT {
         io::write_all(STDOUT_FILENO, b"too long\n");
