@@ -1,0 +1,165 @@
+/* Sillcandle's library: settings and their word, and the super frame that they ask for. For C99, C++ and x86-64 Linux.
+   Link with target/staticlib/libsillcandle.a, which scripts/library builds.
+
+   Numbers. Each call but sill_prepare_alike returns 0 where it is done, else the number that says why not: document 01's, and 15,
+   which its table leaves free. Where more than one applies the lowest is given, and none other.
+
+   Slices. A slice is a pointer and then a count of elements, and the pointer is aligned for its type, as C's own arrays are.
+   Where the count is 0 the pointer isn't looked at and may be NULL: a slice that is missing is a slice of length 0, and gets the
+   number of one that is too short. Two slices of a call must not overlap.
+
+   Answers. They go to the front of a slice that is lent for them. If it has fewer elements than the answer the number is
+   SILL_ROOM; elements past the answer stay as they are. A call that doesn't return 0 changes nothing that it was lent.
+
+   Records. A record is SILL_RECORD numbers: pel, gpu, down, up, full, rc, lean, levels, width, height. It comes from sill_check.
+   Anything else, as another count, a flag neither 0 nor 1 or numbers that sill_check can't give, is refused with SILL_RECORD_NO.
+
+   Layouts. A plane is laid out by a record, two shifts and a pitch: it has (width >> x_shift) by (height >> y_shift) bytes,
+   0 for a plane of the picture's own size and 1 for one of half its width or height; rows of a frame begin pitch bytes apart.
+
+   No call allocates, keeps a pointer, prints, or has a state: calls with slices of their own may run at the same time. */
+#ifndef SILLCANDLE_H
+#define SILLCANDLE_H
+
+#include <stddef.h>
+#include <stdint.h>
+
+#ifdef __cplusplus
+extern "C" {
+#endif
+
+/* The numbers of a call, as document 01's table says them. */
+enum {
+    SILL_DONE = 0,
+    SILL_PEL = 1,          /* pel isn't 1, 2 or 4 */
+    SILL_GPU = 2,          /* gpu isn't 0, 1 or 2 */
+    SILL_FINEST = 3,       /* pel 2 or 4, and not full */
+    SILL_LEAN = 4,         /* lean, and pel above 2, gpu not 1, not full or down not 4 */
+    SILL_SIZE = 5,         /* width or height outside 1 to 16,384 */
+    SILL_RECORD_NO = 6,    /* a record handed in is no accepted record */
+    SILL_SHIFT = 7,        /* a shift above 1 */
+    SILL_PITCH = 8,        /* pitch below max(1, least) or above 32,768; least is level 0's width if full, else level 1's */
+    SILL_SOURCE_PITCH = 9, /* source pitch below max(1, level 0's width) or above 32,768 */
+    SILL_SOURCE = 10,      /* source shorter than (h - 1) * source pitch + w; 0 bytes suffice if w or h is 0 */
+    SILL_FRAME = 11,       /* frame shorter than the written end */
+    SILL_SPILL = 12,       /* spill shorter than its need */
+    SILL_SCRATCH = 13,     /* scratch shorter than 16 * (pitch + 16) */
+    SILL_LEVELS = 14,      /* packing: more than 63 levels */
+    SILL_ROOM = 15,        /* a slice lent for the answer is shorter than the answer */
+    SILL_NO_ROW = 19,      /* no such level, plane or row is stored */
+    SILL_NO_CODE = 20,     /* the word is no code */
+    SILL_DOWN_OPEN = 21,   /* halving filter isn't told */
+    SILL_UP_OPEN = 22      /* upscale filter isn't told */
+};
+
+/* How many elements a record has, and each call's answer. */
+enum {
+    SILL_RECORD = 10,
+    SILL_WORD = 1,
+    SILL_TOLD = 12,
+    SILL_SIZES = 2,
+    SILL_REGIONS = 40,
+    SILL_END = 1,
+    SILL_NEEDS = 2,
+    SILL_PLACE = 2
+};
+
+/* The places of a record. */
+enum {
+    SILL_AT_PEL, SILL_AT_GPU, SILL_AT_DOWN, SILL_AT_UP, SILL_AT_FULL,
+    SILL_AT_RC, SILL_AT_LEAN, SILL_AT_LEVELS, SILL_AT_WIDTH, SILL_AT_HEIGHT
+};
+
+/* The places of what sill_read_word tells. */
+enum {
+    SILL_TOLD_WIDTH, SILL_TOLD_HEIGHT, SILL_TOLD_PEL, SILL_TOLD_LEVELS, SILL_TOLD_GPU, SILL_TOLD_FULL, SILL_TOLD_RC, SILL_TOLD_LEAN,
+    SILL_TOLD_DOWN_MATTERS, SILL_TOLD_DOWN, SILL_TOLD_UP_MATTERS, SILL_TOLD_UP
+};
+
+/* The places of regions: the count of levels, then for each of up to 13 levels its offset, its width and its height. */
+enum {
+    SILL_MOST_LEVELS = 13,
+    SILL_REGION_COUNT = 0,
+    SILL_REGION_OFFSET = 1,
+    SILL_REGION_WIDTH = 14,
+    SILL_REGION_HEIGHT = 27
+};
+
+/* The bits of `given`: which settings are present. */
+enum {
+    SILL_GIVEN_PEL = 1,
+    SILL_GIVEN_GPU = 2,
+    SILL_GIVEN_DOWN = 4,
+    SILL_GIVEN_UP = 8,
+    SILL_GIVEN_FULL = 16,
+    SILL_GIVEN_RC = 32,
+    SILL_GIVEN_LEAN = 64
+};
+
+/* Checks settings and a size. A setting whose bit isn't in `given` has its default: pel 2, gpu 1, down 4, up 2, full yes, rc no,
+   lean no; other bits don't count. A flag is yes unless it is 0. If gpu isn't 0, up becomes 0.
+   Writes a record, SILL_RECORD numbers.
+   Numbers: 1 SILL_PEL, 2 SILL_GPU, 3 SILL_FINEST, 4 SILL_LEAN, 5 SILL_SIZE, 15 SILL_ROOM. */
+uint32_t sill_check(uint32_t given, int32_t pel, int32_t gpu, int32_t down, int32_t up, int32_t full, int32_t rc, int32_t lean,
+                    int32_t width, int32_t height, int32_t *record, size_t record_count);
+
+/* Whether a record is one that sill_check can give.
+   Numbers: 6 SILL_RECORD_NO. */
+uint32_t sill_accepted(const int32_t *record, size_t record_count);
+
+/* The word of a record. Writes 1 number.
+   Numbers: 6 SILL_RECORD_NO, 14 SILL_LEVELS (no accepted record has so many), 15 SILL_ROOM. */
+uint32_t sill_pack_data(const int32_t *record, size_t record_count, uint64_t *word, size_t word_count);
+
+/* What a stored word tells. Writes SILL_TOLD numbers: width, height, pel, levels, gpu, full, rc, lean, then whether down matters
+   and down, whether up matters and up; a filter that has no part in the build is 0.
+   0 is given only where every record that packs to the word has what is told.
+   Numbers: 15 SILL_ROOM, 20 SILL_NO_CODE, 21 SILL_DOWN_OPEN, 22 SILL_UP_OPEN. */
+uint32_t sill_read_word(uint64_t word, int32_t *told, size_t told_count);
+
+/* 1 if both words name one build and they agree in all but rc and lean, else 0. The answer is no number of document 01. */
+uint32_t sill_prepare_alike(uint64_t a, uint64_t b);
+
+/* The size of the super frame that a record asks for. Writes SILL_SIZES numbers: width, height.
+   Numbers: 6 SILL_RECORD_NO, 15 SILL_ROOM. */
+uint32_t sill_super_sizes(const int32_t *record, size_t record_count, int32_t *sizes, size_t sizes_count);
+
+/* Where a plane's levels lie. Writes SILL_REGIONS numbers: the count of levels, 13 offsets, 13 widths, 13 heights, zeros past the
+   last level. Level 0 keeps pel * pel planes, each of height * pitch bytes, one after another, or none if the record isn't full.
+   Numbers: 6 SILL_RECORD_NO, 7 SILL_SHIFT, 8 SILL_PITCH, 15 SILL_ROOM. */
+uint32_t sill_level_regions(const int32_t *record, size_t record_count, uint32_t x_shift, uint32_t y_shift, size_t pitch,
+                            size_t *regions, size_t regions_count);
+
+/* The end of the last level: how long a frame has to be. Writes 1 number.
+   Numbers: 6 SILL_RECORD_NO, 7 SILL_SHIFT, 8 SILL_PITCH, 15 SILL_ROOM. */
+uint32_t sill_written_end(const int32_t *record, size_t record_count, uint32_t x_shift, uint32_t y_shift, size_t pitch,
+                          size_t *end, size_t end_count);
+
+/* How many bytes a build has to be lent. Writes SILL_NEEDS numbers: of spill, of scratch.
+   Numbers: 6 SILL_RECORD_NO, 7 SILL_SHIFT, 8 SILL_PITCH, 15 SILL_ROOM. */
+uint32_t sill_needs(const int32_t *record, size_t record_count, uint32_t x_shift, uint32_t y_shift, size_t pitch,
+                    size_t *needs, size_t needs_count);
+
+/* Zeroes the bytes from a level's width to the pitch, in later levels that a build leaves them in.
+   Numbers: 6 SILL_RECORD_NO, 7 SILL_SHIFT, 8 SILL_PITCH, 11 SILL_FRAME. */
+uint32_t sill_clear_margins(uint8_t *frame, size_t frame_count, const int32_t *record, size_t record_count,
+                            uint32_t x_shift, uint32_t y_shift, size_t pitch);
+
+/* Where a row lies in a frame of frame_length bytes. Writes SILL_PLACE numbers: offset, length.
+   Numbers: 6 SILL_RECORD_NO, 7 SILL_SHIFT, 8 SILL_PITCH, 11 SILL_FRAME, 15 SILL_ROOM, 19 SILL_NO_ROW. */
+uint32_t sill_row(size_t frame_length, const int32_t *record, size_t record_count, uint32_t x_shift, uint32_t y_shift, size_t pitch,
+                  uint32_t level, size_t plane, size_t y, size_t *place, size_t place_count);
+
+/* Builds a plane in the frame from the source, whose rows begin src_pitch bytes apart. What spill and scratch held has no effect;
+   after a finished build they are zero throughout. Frame bytes that no rule writes stay.
+   Numbers: 6 SILL_RECORD_NO, 7 SILL_SHIFT, 8 SILL_PITCH, 9 SILL_SOURCE_PITCH, 10 SILL_SOURCE, 11 SILL_FRAME, 12 SILL_SPILL,
+   13 SILL_SCRATCH. */
+uint32_t sill_build_plane(uint8_t *frame, size_t frame_count, uint8_t *spill, size_t spill_count, uint8_t *scratch, size_t scratch_count,
+                          const int32_t *record, size_t record_count, uint32_t x_shift, uint32_t y_shift, size_t pitch,
+                          const uint8_t *src, size_t src_count, size_t src_pitch);
+
+#ifdef __cplusplus
+}
+#endif
+
+#endif
