@@ -1,0 +1,215 @@
+/* One function for each exported call: it lends the slices, calls, and holds the number, the answer and every lent byte to the rules,
+   and with -DRUST to the Rust too, whose doors are in rust.rs. */
+#include <inttypes.h>
+#include <stdlib.h>
+#include <string.h>
+
+#include "door.h"
+#include "sillcandle.h"
+
+#ifdef RUST
+#define BESIDE(...) __VA_ARGS__
+extern uint32_t rust_check(uint32_t given, const int32_t set[7], int32_t width, int32_t height, int32_t record[10]);
+extern uint64_t rust_word(const int32_t record[10]);
+extern void rust_sizes(const int32_t record[10], int32_t sizes[2]);
+extern void rust_regions(const int32_t record[10], uint32_t x, uint32_t y, size_t pitch, size_t regions[40]);
+extern size_t rust_end(const int32_t record[10], uint32_t x, uint32_t y, size_t pitch);
+extern void rust_clear(uint8_t *frame, size_t length, const int32_t record[10], uint32_t x, uint32_t y, size_t pitch);
+extern void rust_build(uint8_t *frame, size_t length, const int32_t record[10], uint32_t x, uint32_t y, size_t pitch, const uint8_t *src, size_t src_length, size_t src_pitch);
+
+static void differs(const void *ours, const void *rusts, size_t bytes, const char *what) {
+    if (memcmp(ours, rusts, bytes)) failed("the rules' %s isn't the Rust's", what);
+}
+#else
+#define BESIDE(...)
+#endif
+
+const char *const names[CALLS] = {"sill_check", "sill_accepted", "sill_pack_data", "sill_read_word", "sill_prepare_alike", "sill_super_sizes", "sill_level_regions", "sill_written_end", "sill_needs", "sill_clear_margins", "sill_row", "sill_build_plane"};
+uint64_t met[CALLS][23];
+
+static lent record, answer, frame, spill, scratch, src;
+#ifdef RUST
+static uint8_t *want;
+#endif
+const uint8_t *source_given;
+
+void calls_open(void) {
+    lent *all[] = {&record, &answer, &frame, &spill, &scratch, &src};
+    static const char *const called[] = {"record", "answer", "frame", "spill", "scratch", "source"};
+    for (int k = 0; k < 6; k++) lent_open(all[k], called[k]);
+    BESIDE(if (!(want = malloc(MOST))) failed("no memory");)
+}
+
+const uint8_t *built(void) { return frame.at; }
+
+static uint32_t numbered(int call, uint32_t got, uint32_t no) {
+    if (got != no) failed("gave %" PRIu32 ", not %" PRIu32, got, no);
+    met[call][got]++;
+    return got;
+}
+
+/* A call whose one lent slice is the answer's. */
+static uint32_t answered(int call, uint32_t got, uint32_t no, const void *value, size_t bytes) {
+    numbered(call, got, no);
+    if (no) lent_kept(&answer);
+    else lent_front(&answer, value, bytes);
+    return got;
+}
+
+/* "After 1 to 14, before 19 to 22": the lowest number that applies. */
+static uint32_t lowest(uint32_t no, size_t room, size_t need) { return room < need && (!no || no > 15) ? 15 : no; }
+
+static void tell_layout(int call, const layout *l) {
+    const int32_t *r = l->record;
+    tell("%s(record %d %d %d %d %d %d %d %d %d %d count %zu, shifts %u %u, pitch %zu)", names[call], r[0], r[1], r[2], r[3], r[4], r[5], r[6], r[7], r[8], r[9], l->count, l->x, l->y, l->pitch);
+}
+
+static const int32_t *lend_record(const layout *l) { return lend_copy(&record, l->record, l->count * sizeof *l->record); }
+
+uint32_t try_check(uint32_t given, const int32_t set[7], int32_t width, int32_t height, size_t room) {
+    int32_t r[10];
+    tell("sill_check(given %u, %d %d %d %d %d %d %d, %dx%d, room %zu)", given, set[0], set[1], set[2], set[3], set[4], set[5], set[6], width, height, room);
+    uint32_t no = rule_check(given, set, width, height, r);
+    BESIDE({
+        int32_t theirs[10];
+        uint32_t said = rust_check(given, set, width, height, theirs);
+        if (said != (no < 5 ? no : 0)) failed("the rules say %" PRIu32 ", the Rust says %" PRIu32, no, said);
+        if (!no) differs(r, theirs, sizeof r, "record");
+    })
+    no = lowest(no, room, 10);
+    int32_t *to = lend(&answer, room * sizeof *to);
+    return answered(CHECK, sill_check(given, set[0], set[1], set[2], set[3], set[4], set[5], set[6], width, height, to, room), no, r, sizeof r);
+}
+
+uint32_t try_accepted(const layout *l) {
+    tell_layout(ACCEPTED, l);
+    const int32_t *r = lend_record(l);
+    uint32_t got = numbered(ACCEPTED, sill_accepted(r, l->count), rule_record(l->record, l->count));
+    lent_kept(&record);
+    return got;
+}
+
+uint32_t try_pack(const layout *l, size_t room) {
+    tell_layout(PACK, l);
+    uint32_t no = rule_record(l->record, l->count);
+    uint64_t word = no ? 0 : rule_word(l->record);
+    BESIDE(if (!no && rust_word(l->record) != word) failed("the rules' word isn't the Rust's");)
+    const int32_t *r = lend_record(l);
+    uint64_t *to = lend(&answer, room * sizeof *to);
+    uint32_t got = answered(PACK, sill_pack_data(r, l->count, to, room), lowest(no, room, 1), &word, sizeof word);
+    lent_kept(&record);
+    return got;
+}
+
+uint32_t try_read(uint64_t word, size_t room) {
+    int32_t told[12];
+    tell("sill_read_word(%016" PRIx64 ", room %zu)", word, room);
+    uint32_t no = lowest(rule_read(word, told), room, 12);
+    int32_t *to = lend(&answer, room * sizeof *to);
+    return answered(READ, sill_read_word(word, to, room), no, told, sizeof told);
+}
+
+uint32_t try_alike(uint64_t a, uint64_t b) {
+    tell("sill_prepare_alike(%016" PRIx64 ", %016" PRIx64 ")", a, b);
+    return numbered(ALIKE, sill_prepare_alike(a, b), rule_alike(a, b));
+}
+
+uint32_t try_sizes(const layout *l, size_t room) {
+    int32_t sizes[2];
+    tell_layout(SIZES, l);
+    uint32_t no = rule_record(l->record, l->count);
+    if (!no) rule_sizes(l->record, sizes);
+    BESIDE(if (!no) { int32_t theirs[2]; rust_sizes(l->record, theirs); differs(sizes, theirs, sizeof sizes, "sizes"); })
+    const int32_t *r = lend_record(l);
+    int32_t *to = lend(&answer, room * sizeof *to);
+    uint32_t got = answered(SIZES, sill_super_sizes(r, l->count, to, room), lowest(no, room, 2), sizes, sizeof sizes);
+    lent_kept(&record);
+    return got;
+}
+
+uint32_t try_regions(const layout *l, size_t room) {
+    size_t regions[40];
+    tell_layout(REGIONS, l);
+    uint32_t no = rule_layout(l);
+    if (!no) rule_regions(l, regions);
+    BESIDE(if (!no) { size_t theirs[40]; rust_regions(l->record, l->x, l->y, l->pitch, theirs); differs(regions, theirs, sizeof regions, "regions"); })
+    const int32_t *r = lend_record(l);
+    size_t *to = lend(&answer, room * sizeof *to);
+    uint32_t got = answered(REGIONS, sill_level_regions(r, l->count, l->x, l->y, l->pitch, to, room), lowest(no, room, 40), regions, sizeof regions);
+    lent_kept(&record);
+    return got;
+}
+
+uint32_t try_end(const layout *l, size_t room) {
+    tell_layout(END, l);
+    uint32_t no = rule_layout(l);
+    size_t end = no ? 0 : rule_end(l);
+    BESIDE(if (!no && rust_end(l->record, l->x, l->y, l->pitch) != end) failed("the rules' end isn't the Rust's");)
+    const int32_t *r = lend_record(l);
+    size_t *to = lend(&answer, room * sizeof *to);
+    uint32_t got = answered(END, sill_written_end(r, l->count, l->x, l->y, l->pitch, to, room), lowest(no, room, 1), &end, sizeof end);
+    lent_kept(&record);
+    return got;
+}
+
+uint32_t try_needs(const layout *l, size_t room) {
+    size_t needs[2];
+    tell_layout(NEEDS, l);
+    uint32_t no = rule_layout(l);
+    if (!no) rule_needs(l, needs);
+    const int32_t *r = lend_record(l);
+    size_t *to = lend(&answer, room * sizeof *to);
+    uint32_t got = answered(NEEDS, sill_needs(r, l->count, l->x, l->y, l->pitch, to, room), lowest(no, room, 2), needs, sizeof needs);
+    lent_kept(&record);
+    return got;
+}
+
+uint32_t try_clear(const layout *l, size_t length) {
+    tell_layout(CLEAR, l);
+    uint32_t no = rule_frame(l, length);
+    const int32_t *r = lend_record(l);
+    uint8_t *to = lend(&frame, length);
+    uint32_t got = numbered(CLEAR, sill_clear_margins(to, length, r, l->count, l->x, l->y, l->pitch), no);
+    if (no) lent_kept(&frame);
+    BESIDE(else {
+        memcpy(want, frame.before, length);
+        rust_clear(want, length, l->record, l->x, l->y, l->pitch);
+        lent_is(&frame, want);
+    })
+    lent_kept(&record);
+    return got;
+}
+
+uint32_t try_row(const layout *l, size_t length, uint32_t level, size_t plane, size_t y, size_t room) {
+    size_t place[2];
+    tell_layout(ROW, l);
+    uint32_t no = rule_row(l, length, level, plane, y, place);
+    const int32_t *r = lend_record(l);
+    size_t *to = lend(&answer, room * sizeof *to);
+    uint32_t got = answered(ROW, sill_row(length, r, l->count, l->x, l->y, l->pitch, level, plane, y, to, room), lowest(no, room, 2), place, sizeof place);
+    lent_kept(&record);
+    return got;
+}
+
+uint32_t try_build(const layout *l, const lengths *n) {
+    const int32_t *t = l->record;
+    tell("sill_build_plane(record %d %d %d %d %d %d %d %d %d %d count %zu, shifts %u %u, pitch %zu; frame %zu, spill %zu, scratch %zu, source %zu of pitch %zu)", t[0], t[1], t[2], t[3], t[4], t[5], t[6], t[7], t[8], t[9], l->count, l->x, l->y, l->pitch, n->frame, n->spill, n->scratch, n->src, n->src_pitch);
+    uint32_t no = rule_build(l, n);
+    const int32_t *r = lend_record(l);
+    uint8_t *f = lend(&frame, n->frame), *sp = lend(&spill, n->spill), *sc = lend(&scratch, n->scratch);
+    const uint8_t *from = source_given ? lend_copy(&src, source_given, n->src) : lend(&src, n->src);
+    uint32_t got = numbered(BUILD, sill_build_plane(f, n->frame, sp, n->spill, sc, n->scratch, r, l->count, l->x, l->y, l->pitch, from, n->src, n->src_pitch), no);
+    lent_kept(&record);
+    lent_kept(&src);
+    if (no) {
+        lent_kept(&frame), lent_kept(&spill), lent_kept(&scratch);
+        return got;
+    }
+    lent_zero(&spill), lent_zero(&scratch);
+    BESIDE(
+        memcpy(want, frame.before, n->frame);
+        rust_build(want, n->frame, l->record, l->x, l->y, l->pitch, src.before, n->src, n->src_pitch);
+        lent_is(&frame, want);
+    )
+    return got;
+}

@@ -1,0 +1,87 @@
+/* What the parts of the library's test share. In the order of use: the rules, lent slices, calls, cases. */
+#ifndef DOOR_H
+#define DOOR_H
+
+#include <stddef.h>
+#include <stdint.h>
+
+/* A layout as a call takes it; a record may be handed in with another count than 10. */
+enum { RECORD_MOST = 12 };
+typedef struct {
+    int32_t record[RECORD_MOST];
+    size_t count;
+    uint32_t x, y;
+    size_t pitch;
+} layout;
+
+/* What a build is lent beside its layout. */
+typedef struct {
+    size_t frame, spill, scratch, src, src_pitch;
+} lengths;
+
+/* rules.c: document 01's table and sizes. A number, or 0 and the answer. */
+uint32_t rule_check(uint32_t given, const int32_t set[7], int32_t width, int32_t height, int32_t record[10]);
+uint32_t rule_record(const int32_t *record, size_t count);
+uint64_t rule_word(const int32_t record[10]);
+uint32_t rule_read(uint64_t word, int32_t told[12]);
+uint32_t rule_alike(uint64_t a, uint64_t b);
+void rule_sizes(const int32_t record[10], int32_t sizes[2]);
+uint32_t rule_layout(const layout *l);
+void rule_regions(const layout *l, size_t regions[40]);
+size_t rule_end(const layout *l);
+void rule_needs(const layout *l, size_t needs[2]);
+uint32_t rule_frame(const layout *l, size_t frame);
+uint32_t rule_row(const layout *l, size_t frame, uint32_t level, size_t plane, size_t y, size_t place[2]);
+size_t rule_source(const layout *l, size_t src_pitch);
+uint32_t rule_build(const layout *l, const lengths *n);
+
+/* lent.c: random numbers, and slices between guard bytes and unmapped pages. */
+uint64_t next(void);
+uint64_t below(uint64_t n);
+void seed(uint64_t s);
+
+enum { MOST = 1 << 20 };
+typedef enum { AT_START, AMIDST, AT_END, PLACES } place;
+typedef struct {
+    const char *name;
+    uint8_t *room, *at, *before;
+    size_t bytes;
+} lent;
+extern place where;
+void lent_open(lent *l, const char *name);
+void *lend(lent *l, size_t bytes);
+void *lend_copy(lent *l, const void *of, size_t bytes);
+void lent_kept(const lent *l);
+void lent_front(const lent *l, const void *value, size_t bytes);
+void lent_is(const lent *l, const void *value);
+void lent_zero(const lent *l);
+void failed(const char *what, ...);
+void tell(const char *what, ...);
+void watch(void);
+
+/* calls.c: one call each, held to the rules and the Rust. The number that the call gave, or of two words whether they are alike. */
+enum { CHECK, ACCEPTED, PACK, READ, ALIKE, SIZES, REGIONS, END, NEEDS, CLEAR, ROW, BUILD, CALLS };
+extern const char *const names[CALLS];
+extern uint64_t met[CALLS][23];
+void calls_open(void);
+uint32_t try_check(uint32_t given, const int32_t set[7], int32_t width, int32_t height, size_t room);
+uint32_t try_accepted(const layout *l);
+uint32_t try_pack(const layout *l, size_t room);
+uint32_t try_read(uint64_t word, size_t room);
+uint32_t try_alike(uint64_t a, uint64_t b);
+uint32_t try_sizes(const layout *l, size_t room);
+uint32_t try_regions(const layout *l, size_t room);
+uint32_t try_end(const layout *l, size_t room);
+uint32_t try_needs(const layout *l, size_t room);
+uint32_t try_clear(const layout *l, size_t frame);
+uint32_t try_row(const layout *l, size_t frame, uint32_t level, size_t plane, size_t y, size_t room);
+uint32_t try_build(const layout *l, const lengths *n);
+/* The source's bytes, or NULL for random ones; and what the last build left in the frame. */
+extern const uint8_t *source_given;
+const uint8_t *built(void);
+
+/* fixed.c, random.c */
+void fixed_cases(void);
+void random_calls(uint64_t count);
+
+#endif

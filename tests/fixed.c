@@ -1,0 +1,242 @@
+/* Cases whose numbers and answers are told here by hand, good and bad ones of each call; most values are document 01's own. */
+#include <stdio.h>
+#include <string.h>
+#include <sys/mman.h>
+
+#include "door.h"
+#include "sillcandle.h"
+
+enum { ALL = 127 };
+
+/* A number that the case names, beside what the call is held to anyway. */
+static void is(uint32_t got, uint32_t number) {
+    if (got != number) failed("fixed case: %u, not %u", got, number);
+}
+
+static layout laid(int32_t pel, int32_t gpu, int32_t up, int32_t full, int32_t width, int32_t height, size_t pitch) {
+    layout l = {.count = 10, .pitch = pitch};
+    int32_t set[7] = {pel, gpu, 4, up, full, 0, 0};
+    if (rule_check(ALL, set, width, height, l.record)) failed("fixed case: no record");
+    return l;
+}
+
+static void checks(void) {
+    static const struct { uint32_t number, given; int32_t set[7], width, height; } cases[] = {
+        {0, 0, {9, 9, 9, 9, 9, 9, 9}, 64, 48},
+        {0, ~127u, {9, 9, 9, 9, 9, 9, 9}, 64, 48},
+        {0, ALL, {4, 0, INT32_MIN, INT32_MAX, -7, 2, 0}, 16384, 16384},
+        {0, ALL, {1, 2, 0, 0, 0, 0, 0}, 1, 1},
+        {0, ALL, {2, 1, 4, 0, 1, 1, INT32_MIN}, 4, 4},
+        {1, ALL, {3, 3, 4, 0, 0, 0, 1}, 0, 0},
+        {1, 1, {0}, 64, 48}, {1, 1, {-1}, 64, 48}, {1, 1, {INT32_MAX}, 64, 48},
+        {2, 2, {0, 3}, 0, 0}, {2, 2, {0, -1}, 64, 48}, {2, 3, {4, INT32_MIN}, 64, 48},
+        {3, 16, {0}, 0, 0}, {3, 17, {4}, 64, 48}, {3, 16 + 64, {0, 0, 0, 0, 0, 0, 1}, 64, 48},
+        {4, 1 + 64, {4, 0, 0, 0, 0, 0, 1}, 0, 0}, {4, 2 + 64, {0, 0, 0, 0, 0, 0, 1}, 64, 48}, {4, 2 + 64, {0, 2, 0, 0, 0, 0, 1}, 64, 48},
+        {4, 1 + 16 + 64, {1, 0, 0, 0, 0, 0, 1}, 64, 48}, {4, 4 + 64, {0, 0, 3, 0, 0, 0, 1}, 64, 48},
+        {5, 0, {0}, 0, 48}, {5, 0, {0}, 64, 0}, {5, 0, {0}, 16385, 48}, {5, 0, {0}, 64, 16385}, {5, 0, {0}, -1, -1}, {5, 0, {0}, INT32_MIN, INT32_MAX}, {5, 0, {0}, 65540, 4},
+    };
+    for (size_t k = 0; k < sizeof cases / sizeof *cases; k++) {
+        for (size_t room = 0; room <= 12; room++) {
+            uint32_t no = cases[k].number;
+            is(try_check(cases[k].given, cases[k].set, cases[k].width, cases[k].height, room), no ? no : room < 10 ? 15 : 0);
+        }
+    }
+}
+
+/* What the check gave is what document 01 says: the defaults, and levels. */
+static void records(void) {
+    int32_t r[10];
+    static const int32_t of_64x48[10] = {2, 1, 4, 0, 1, 0, 0, 4, 64, 48};
+    tell("sill_check, the record");
+    is(sill_check(0, 0, 0, 0, 0, 0, 0, 0, 64, 48, r, 10), 0);
+    if (memcmp(r, of_64x48, sizeof r)) failed("another record of 64x48");
+    static const int32_t levels[][3] = {{3, 100, 0}, {4, 4, 1}, {64, 48, 4}, {16384, 16384, 13}};
+    for (int k = 0; k < 4; k++) {
+        is(sill_check(0, 0, 0, 0, 0, 0, 0, 0, levels[k][0], levels[k][1], r, 10), 0);
+        if (r[SILL_AT_LEVELS] != levels[k][2]) failed("%dx%d: %d levels", levels[k][0], levels[k][1], r[SILL_AT_LEVELS]);
+    }
+}
+
+/* Every call that takes a record refuses each of these with 6, whatever else is wrong. */
+static void refused(const layout *l) {
+    lengths none = {0};
+    is(try_accepted(l), 6), is(try_pack(l, 0), 6), is(try_pack(l, 1), 6), is(try_sizes(l, 0), 6), is(try_sizes(l, 2), 6);
+    is(try_regions(l, 0), 6), is(try_regions(l, 40), 6), is(try_end(l, 1), 6), is(try_needs(l, 2), 6), is(try_needs(l, 0), 6);
+    is(try_clear(l, 0), 6), is(try_clear(l, 100), 6), is(try_row(l, 0, 0, 0, 0, 0), 6), is(try_row(l, SIZE_MAX, 0, 0, 0, 2), 6), is(try_build(l, &none), 6);
+}
+
+static void bad_records(void) {
+    static const int32_t wild[] = {-1, 2, 3, 5, 255, 16385, 65537, INT32_MAX, INT32_MIN};
+    for (size_t count = 0; count <= 12; count++) {
+        layout l = laid(2, 1, 0, 1, 64, 48, 64);
+        l.count = count;
+        if (count != 10) refused(&l);
+        else is(try_accepted(&l), 0);
+    }
+    for (int at = 0; at < 10; at++) {
+        for (size_t k = 0; k < sizeof wild / sizeof *wild; k++) {
+            layout l = laid(2, 1, 0, 1, 64, 48, 64);
+            if (l.record[at] == wild[k] || at == SILL_AT_DOWN || (at == SILL_AT_GPU && wild[k] == 2)) continue;
+            l.record[at] = wild[k];
+            /* Another size may have as many levels. */
+            if (rule_record(l.record, 10)) refused(&l);
+            else if (at < SILL_AT_WIDTH) failed("fixed case: record place %d of %d is accepted", at, wild[k]);
+        }
+    }
+    layout zeros = {.count = 10, .pitch = 1}, refined_off_gpu_0 = laid(2, 1, 0, 1, 64, 48, 64);
+    refined_off_gpu_0.record[SILL_AT_UP] = 2;
+    refused(&zeros), refused(&refined_off_gpu_0);
+}
+
+static void words(void) {
+    static const struct { uint64_t word; uint32_t number; int32_t told[12]; } cases[] = {
+        {0x0001040200400030, 0, {64, 48, 2, 4, 1, 1, 0, 0, 1, 4, 1, 0}},
+        {0x0000040200400030, 22, {0}}, {0x0300440100400030, 21, {0}}, {0x0001050200400030, 20, {0}},
+        {0x0001410200040004, 0, {4, 4, 2, 1, 1, 1, 0, 0, 0, 0, 1, 0}},
+        {0, 20, {0}}, {UINT64_MAX, 20, {0}}, {0x0001040200400030 ^ 1ull << 63, 20, {0}}, {0x0000440200400030, 21, {0}},
+    };
+    for (size_t k = 0; k < sizeof cases / sizeof *cases; k++) {
+        int32_t told[12] = {0};
+        for (size_t room = 0; room <= 14; room++) is(try_read(cases[k].word, room), room < 12 ? 15 : cases[k].number);
+        is(sill_read_word(cases[k].word, told, 12), cases[k].number);
+        if (memcmp(told, cases[k].told, sizeof told)) failed("fixed case: another description");
+    }
+    layout l = laid(2, 1, 0, 1, 64, 48, 64);
+    uint64_t word = 0;
+    is(try_pack(&l, 0), 15), is(try_pack(&l, 1), 0), is(try_pack(&l, 2), 0);
+    is(sill_pack_data(l.record, 10, &word, 1), 0);
+    if (word != cases[0].word) failed("fixed case: another word of 64x48");
+}
+
+static void alike(void) {
+    const uint64_t word = 0x0001040200400030, rc = 1ull << 56, lean = 1ull << 47;
+    is(try_alike(word, word), 1), is(try_alike(word, word | rc), 1), is(try_alike(word | rc, word | lean), 1);
+    is(try_alike(word, 0x0001410200040004), 0), is(try_alike(word, 0x0001040100400030), 0);
+    /* A word that doesn't tell its build isn't even like itself. */
+    is(try_alike(0x0000040200400030, 0x0000040200400030), 0), is(try_alike(0, 0), 0), is(try_alike(UINT64_MAX, UINT64_MAX), 0);
+}
+
+static void sizes(void) {
+    layout full = laid(2, 1, 0, 1, 64, 48, 64), packed = laid(1, 1, 0, 0, 64, 48, 64);
+    int32_t of[2];
+    is(try_sizes(&full, 0), 15), is(try_sizes(&full, 1), 15), is(try_sizes(&full, 2), 0), is(try_sizes(&packed, 5), 0);
+    is(sill_super_sizes(full.record, 10, of, 2), 0);
+    if (of[0] != 64 || of[1] != 4 * 48 + 24 + 12 + 6) failed("fixed case: another super size of 64x48");
+    is(sill_super_sizes(packed.record, 10, of, 2), 0);
+    if (of[0] != 32 || of[1] != 48) failed("fixed case: another super size of 64x48, not full");
+}
+
+/* Layout refusals of every call that takes one; `no` has no fault but in shifts or pitch. */
+static void layout_refused(const layout *l, uint32_t number) {
+    lengths none = {0};
+    is(try_regions(l, 0), number), is(try_regions(l, 40), number), is(try_end(l, 0), number), is(try_needs(l, 2), number);
+    is(try_clear(l, 0), number), is(try_row(l, 0, 99, 0, 0, 0), number), is(try_build(l, &none), number);
+}
+
+static void layouts(void) {
+    static const uint32_t shifts[] = {2, 31, 32, 33, 1u << 31, UINT32_MAX};
+    static const size_t pitches[] = {0, 63, 32769, (size_t)1 << 31, ((size_t)1 << 32) + 64, (size_t)1 << 63, SIZE_MAX};
+    for (size_t k = 0; k < sizeof shifts / sizeof *shifts; k++) {
+        layout x = laid(2, 1, 0, 1, 64, 48, 64), y = x;
+        x.x = shifts[k], y.y = shifts[k], y.pitch = 0;
+        layout_refused(&x, 7), layout_refused(&y, 7);
+    }
+    for (size_t k = 0; k < sizeof pitches / sizeof *pitches; k++) {
+        layout l = laid(2, 1, 0, 1, 64, 48, pitches[k]);
+        layout_refused(&l, 8);
+    }
+    layout l = laid(2, 1, 0, 1, 64, 48, 64), flat = laid(1, 1, 0, 0, 3, 3, 1);
+    size_t regions[40], end, needs[2];
+    is(try_regions(&l, 39), 15), is(try_regions(&l, 40), 0), is(try_regions(&l, 41), 0), is(try_regions(&flat, 40), 0);
+    is(try_end(&l, 0), 15), is(try_end(&l, 1), 0), is(try_end(&flat, 2), 0), is(try_needs(&l, 0), 15), is(try_needs(&l, 1), 15), is(try_needs(&l, 3), 0);
+    is(sill_level_regions(l.record, 10, 0, 0, 64, regions, 40), 0), is(sill_written_end(l.record, 10, 0, 0, 64, &end, 1), 0), is(sill_needs(l.record, 10, 0, 0, 64, needs, 2), 0);
+    if (regions[0] != 4 || regions[2] != 12288 || end != 14976 || needs[0] != 16 || needs[1] != 1280) failed("fixed case: another layout of 64x48");
+}
+
+static void rows(void) {
+    layout l = laid(2, 1, 0, 1, 64, 48, 64), half = laid(1, 1, 0, 0, 64, 48, 64);
+    size_t place[2], far = (size_t)1 << 63;
+    is(try_row(&l, 14975, 0, 0, 0, 0), 11), is(try_row(&l, 14976, 0, 0, 0, 1), 15), is(try_row(&l, 14976, 9, 0, 0, 1), 15);
+    is(try_row(&l, 14976, 0, 3, 47, 2), 0), is(try_row(&l, SIZE_MAX, 3, 0, 5, 4), 0);
+    is(try_row(&l, 14976, 0, 4, 0, 2), 19), is(try_row(&l, 14976, 0, 0, 48, 2), 19), is(try_row(&l, 14976, 4, 0, 0, 2), 19), is(try_row(&l, 14976, 1, 1, 0, 2), 19);
+    is(try_row(&l, 14976, UINT32_MAX, far, SIZE_MAX, 2), 19), is(try_row(&l, far, 0, far, 0, 2), 19), is(try_row(&l, far, 0, 0, far + 1, 2), 19), is(try_row(&half, far, 0, 0, 0, 2), 19);
+    is(sill_row(14976, l.record, 10, 0, 0, 64, 1, 0, 2, place, 2), 0);
+    if (place[0] != 12288 + 2 * 64 || place[1] != 32) failed("fixed case: another row of 64x48");
+}
+
+static void frames(void) {
+    layout l = laid(2, 1, 0, 1, 64, 48, 64), none = laid(2, 1, 0, 1, 3, 3, 3);
+    is(try_clear(&l, 0), 11), is(try_clear(&l, 14975), 11), is(try_clear(&l, 14976), 0), is(try_clear(&l, 15000), 0), is(try_clear(&none, 0), 0);
+    lengths fine = {14976, 16, 1280, 3072, 64}, n;
+    is(try_build(&l, &fine), 0);
+    n = fine, n.src_pitch = 63, n.src = 0, is(try_build(&l, &n), 9);
+    n = fine, n.src_pitch = 32769, is(try_build(&l, &n), 9);
+    n = fine, n.src_pitch = (size_t)1 << 63, n.frame = 0, is(try_build(&l, &n), 9);
+    n = fine, n.src--, n.frame = 0, is(try_build(&l, &n), 10);
+    n = fine, n.src = 0, is(try_build(&l, &n), 10);
+    n = fine, n.src_pitch++, is(try_build(&l, &n), 10);
+    n = fine, n.frame--, n.spill = 0, is(try_build(&l, &n), 11);
+    n = fine, n.spill--, n.scratch = 0, is(try_build(&l, &n), 12);
+    n = fine, n.scratch--, is(try_build(&l, &n), 13);
+    n = fine, n.scratch = 0, is(try_build(&l, &n), 13);
+    /* Nothing is stored of a picture without levels: frame and source may be missing where no byte is needed. */
+    lengths small = {0, 16, 304, 9, 3};
+    is(try_build(&none, &small), 0);
+    layout thin = laid(1, 1, 0, 1, 1, 1, 1);
+    thin.x = 1;
+    lengths empty = {0, 16, 272, 0, 1};
+    is(try_build(&thin, &empty), 0);
+}
+
+/* Bytes by hand: rows 0, 200, 30 .. 80 halve by cubic to 100, 66, 55, 75; a row past the level's stays, and level 0 is a copy. */
+static void bytes(void) {
+    static const uint8_t row[8] = {0, 200, 30, 40, 50, 60, 70, 80}, halved[4] = {100, 66, 55, 75};
+    uint8_t source[64];
+    for (int y = 0; y < 8; y++) memcpy(source + 8 * y, row, 8);
+    layout l = laid(1, 1, 0, 1, 8, 8, 8);
+    lengths n = {8 * 8 + 4 * 8, 16, 16 * 24, 64, 8};
+    source_given = source;
+    is(try_build(&l, &n), 0);
+    source_given = NULL;
+    if (memcmp(built(), source, 64)) failed("fixed case: level 0 isn't the source");
+    for (int y = 0; y < 4; y++) if (memcmp(built() + 64 + 8 * y, halved, 4)) failed("fixed case: row %d of level 1 isn't 100, 66, 55, 75", y);
+}
+
+/* Counts whose low 32 bits alone would be another length. What is refused lies in memory that can't be written. */
+static void vast(void) {
+    const size_t over = (size_t)1 << 32, room = 8 * (over + 64);
+    uint8_t *to = mmap(NULL, room, PROT_READ | PROT_WRITE, MAP_PRIVATE | MAP_ANONYMOUS | MAP_NORESERVE, -1, 0);
+    int32_t *held = mmap(NULL, room, PROT_READ, MAP_PRIVATE | MAP_ANONYMOUS | MAP_NORESERVE, -1, 0);
+    tell("slices of 2^32 elements and more");
+    if (to == MAP_FAILED || held == MAP_FAILED) failed("no room for them");
+    layout l = laid(2, 1, 0, 1, 64, 48, 64);
+    static uint8_t frame[14976], spill[16], scratch[1280], src[3072];
+    memcpy(to, l.record, sizeof l.record);
+    const int32_t *record = (const int32_t *)to;
+    is(sill_accepted(record, over + 10), 6), is(sill_accepted(record, 10), 0);
+    is(sill_check(0, 0, 0, 0, 0, 0, 0, 0, 0, 0, held, over), 5), is(sill_pack_data(record, over + 10, (uint64_t *)held, over), 6);
+    is(sill_row(over, record, 10, 0, 0, 64, 4, 0, 0, (size_t *)held, over), 19), is(sill_read_word(0, held, over + 11), 20);
+    is(sill_clear_margins((uint8_t *)held, over, record, over + 10, 0, 0, 64), 6);
+    is(sill_build_plane(frame, 14975, (uint8_t *)held, over, (uint8_t *)held + over, over, l.record, 10, 0, 0, 64, src, 3072, 64), 11);
+    is(sill_build_plane((uint8_t *)held, over, spill, 15, scratch, 1280, l.record, 10, 0, 0, 64, src, 3072, 64), 12);
+    for (int k = 0; k < 3072; k++) src[k] = (uint8_t)next();
+    memset(to, 0, sizeof l.record);
+    is(sill_build_plane(frame, 14976, spill, 16, scratch, 1280, l.record, 10, 0, 0, 64, src, 3072, 64), 0);
+    uint8_t *long_src = to + over + 4096;
+    memcpy(long_src, src, 3072);
+    is(sill_build_plane(to, over + 5, spill, 16, scratch, 1280, l.record, 10, 0, 0, 64, long_src, over + 7, 64), 0);
+    if (memcmp(to, frame, 14976)) failed("another frame");
+    munmap(to, room), munmap(held, room);
+}
+
+void fixed_cases(void) {
+    for (where = AT_START; where < PLACES; where++) {
+        checks(), records(), bad_records(), words(), alike(), sizes(), layouts(), rows(), frames(), bytes();
+    }
+    where = AMIDST;
+    vast();
+    uint64_t count = 0;
+    for (int k = 0; k < CALLS; k++) for (int n = 0; n < 23; n++) count += met[k][n];
+    printf("door: %llu fixed calls, each slice at the start, amid and at the end of its room: as told\n", (unsigned long long)count);
+    memset(met, 0, sizeof met);
+}

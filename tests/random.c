@@ -1,0 +1,180 @@
+/* Random calls: good settings, layouts and lengths, of which many are then spoilt by a wild number, sometimes by more than one.
+   What each call has to give is not known here: calls.c holds it to the rules. */
+#include <stdio.h>
+#include <string.h>
+
+#include "door.h"
+
+#define PICK(...) ((const int64_t[]){__VA_ARGS__}[below(sizeof (int64_t[]){__VA_ARGS__} / sizeof(int64_t))])
+
+/* Near 0, near a power of two, near the largest, or any. */
+static uint64_t wild(void) {
+    switch (below(4)) {
+    case 0: return below(6);
+    case 1: return ((uint64_t)1 << PICK(1, 2, 4, 8, 14, 15, 16, 31, 32, 33, 62, 63)) + below(5) - 2;
+    case 2: return 0 - below(4);
+    default: return next();
+    }
+}
+
+static int32_t side(void) {
+    switch (below(16)) {
+    case 0: return 1 + (int32_t)below(16384);
+    case 1: return 1 + (int32_t)below(160);
+    case 2: case 3: return 4 * (1 + (int32_t)below(16));
+    default: return 1 + (int32_t)below(40);
+    }
+}
+
+static void usual(int32_t set[7]) {
+    int32_t of[7] = {(int32_t)PICK(1, 1, 2, 2, 4), (int32_t)PICK(0, 0, 1, 2), (int32_t)PICK(4, 4, 4, 3, 2, 1, 0, 5), (int32_t)PICK(0, 1, 2, 3), below(4) != 0, (int32_t)below(2), below(8) == 0};
+    memcpy(set, of, sizeof of);
+}
+
+/* An accepted record, its shifts and a pitch that fits, mostly a narrow one. */
+static layout fine(void) {
+    layout l = {.count = 10};
+    int32_t set[7];
+    do usual(set); while (rule_check(127, set, side(), side(), l.record));
+    l.x = (uint32_t)below(2), l.y = (uint32_t)below(2);
+    int32_t width = l.record[4] ? l.record[8] : 2 * (l.record[8] / 4);
+    size_t least = (size_t)(width >> l.x);
+    if (!least) least = 1;
+    l.pitch = least + (size_t)PICK(0, 0, 0, 1, 2, 5, 16, (int64_t)below(100), (int64_t)(15 & -least));
+    if (below(64) == 0) l.pitch = 32768 - below(3);
+    return l;
+}
+
+static void spoil_layout(layout *l) {
+    switch (below(6)) {
+    case 0: l->count = PICK(0, 1, 9, 11, 12); break;
+    case 1: l->record[below(10)] = (int32_t)wild(); break;
+    case 2: l->record[7] += (int32_t)PICK(-1, 1, 64, 256); break;
+    case 3: l->x = (uint32_t)wild(); break;
+    case 4: l->y = (uint32_t)wild(); break;
+    default: l->pitch = below(2) ? l->pitch - 1 - below(3) : wild();
+    }
+}
+
+static layout some(void) {
+    layout l = fine();
+    if (below(3) == 0) spoil_layout(&l);
+    if (below(9) == 0) spoil_layout(&l);
+    return l;
+}
+
+/* Elements lent for an answer of so many. */
+static size_t room(size_t need) { return below(4) ? need : below(2) ? below(need) : need + below(5); }
+
+/* A length near its need, as far as the test has room for it. */
+static size_t near(size_t need) {
+    size_t n = need;
+    switch (below(12)) {
+    case 0: n = need - (need > 0); break;
+    case 1: n = need / 2; break;
+    case 2: n = 0; break;
+    case 3: case 4: n = need + below(80); break;
+    default: break;
+    }
+    return n > MOST ? below(2000) : n;
+}
+
+static uint64_t word(void) {
+    layout l = fine();
+    uint64_t w = rule_word(l.record);
+    switch (below(4)) {
+    case 0: return w ^ (uint64_t)1 << below(64);
+    case 1: return w ^ (uint64_t)(1 + below(63)) << PICK(32, 40, 48, 56);
+    case 2: return below(2) ? wild() : (w >> 16 << 16 | (wild() & 65535));
+    default: return w;
+    }
+}
+
+static void check(void) {
+    int32_t set[7];
+    usual(set);
+    uint32_t given = (uint32_t)(below(2) ? below(128) : next());
+    for (int spoils = (int)below(4); spoils > 1; spoils--) set[below(7)] = (int32_t)wild();
+    int32_t width = below(4) ? side() : (int32_t)wild(), height = below(8) ? side() : (int32_t)wild();
+    try_check(given, set, width, height, room(10));
+}
+
+static void alike(void) {
+    uint64_t a = word();
+    switch (below(3)) {
+    case 0: try_alike(a, word()); break;
+    case 1: try_alike(a, a ^ (uint64_t)below(2) << 56 ^ (uint64_t)below(2) << 47); break;
+    default: try_alike(a, a ^ (uint64_t)1 << below(64));
+    }
+}
+
+static void clear(void) {
+    layout l = some();
+    try_clear(&l, near(rule_layout(&l) ? below(300) : rule_end(&l)));
+}
+
+static void row(void) {
+    layout l = some();
+    size_t need = rule_layout(&l) ? below(300) : rule_end(&l), frame = below(3) ? need : below(2) ? need - 1 : wild();
+    uint32_t level = (uint32_t)(below(8) ? below(4) : wild());
+    size_t plane = level ? below(8) == 0 : below(4), y = below(6);
+    if (below(8) == 0) plane = wild();
+    if (below(8) == 0) y = wild();
+    try_row(&l, frame, level, plane, y, room(2));
+}
+
+static void build(void) {
+    layout l = some();
+    size_t needs[2] = {16, 512}, end = below(300), source = below(300), src_pitch = below(40);
+    if (!rule_layout(&l)) {
+        src_pitch = (size_t)(l.record[8] >> l.x);
+        if (!src_pitch) src_pitch = 1;
+        src_pitch += (size_t)PICK(0, 0, 0, 1, 2, 3, (int64_t)below(40));
+        rule_needs(&l, needs), end = rule_end(&l), source = rule_source(&l, src_pitch);
+    }
+    int spoilt = below(3) == 0;
+    lengths n = {end, needs[0], needs[1], source, src_pitch};
+    size_t *of[] = {&n.frame, &n.spill, &n.scratch, &n.src};
+    for (int k = 0; k < 4; k++) if (*of[k] > MOST || (spoilt && below(2))) *of[k] = near(*of[k]);
+    if (spoilt && below(4) == 0) n.src_pitch = below(2) ? n.src_pitch - 1 - below(3) : wild();
+    try_build(&l, &n);
+}
+
+static void one(int call) {
+    layout l = some();
+    where = (place)below(PLACES);
+    switch (call) {
+    case CHECK: check(); break;
+    case ACCEPTED: try_accepted(&l); break;
+    case PACK: try_pack(&l, room(1)); break;
+    case READ: try_read(word(), room(12)); break;
+    case ALIKE: alike(); break;
+    case SIZES: try_sizes(&l, room(2)); break;
+    case REGIONS: try_regions(&l, room(40)); break;
+    case END: try_end(&l, room(1)); break;
+    case NEEDS: try_needs(&l, room(2)); break;
+    case CLEAR: clear(); break;
+    case ROW: row(); break;
+    default: build();
+    }
+}
+
+/* The numbers that each call can give, as bits; 14 is no accepted record's. Of prepare_alike the two answers. */
+static const uint32_t can[CALLS] = {
+    [CHECK] = 0x803f, [ACCEPTED] = 0x41, [PACK] = 0x8041, [READ] = 0x708001, [ALIKE] = 3, [SIZES] = 0x8041, [REGIONS] = 0x81c1,
+    [END] = 0x81c1, [NEEDS] = 0x81c1, [CLEAR] = 0x9c1, [ROW] = 0x889c1, [BUILD] = 0x3fc1,
+};
+
+void random_calls(uint64_t count) {
+    /* A quarter of the calls are builds. */
+    for (uint64_t k = 0; k < count; k++) one(k % 16 < CALLS ? (int)(k % 16) : BUILD);
+    tell("numbers met");
+    for (int call = 0; call < CALLS; call++) {
+        printf("door: %s:", names[call]);
+        for (int n = 0; n < 23; n++) {
+            if (met[call][n]) printf(" %d: %llu", n, (unsigned long long)met[call][n]);
+            if (!met[call][n] != !(can[call] >> n & 1)) failed("%s: number %d was met %llu times", names[call], n, (unsigned long long)met[call][n]);
+        }
+        putchar('\n');
+    }
+}

@@ -1,0 +1,172 @@
+/* Document 01 in plain C, written from the document alone and not from either code: settings, sizes and the table of numbers, in its order.
+   What bytes a build writes isn't here: that is the Rust's to say. */
+#include <string.h>
+
+#include "door.h"
+
+enum { PEL, GPU, DOWN, UP, FULL, RC, LEAN, LEVELS, WIDTH, HEIGHT };
+enum { MOST_SIDE = 16384, MOST_PITCH = 32768, MOST_LEVELS = 13 };
+
+static int64_t reduced(int64_t d, int times) {
+    while (times-- > 0) d = 2 * (d / 4);
+    return d;
+}
+
+static int levels_of(int64_t width, int64_t height) {
+    int n = 0;
+    for (; width >= 4 && height >= 4; n++) width = reduced(width, 1), height = reduced(height, 1);
+    return n;
+}
+
+uint32_t rule_check(uint32_t given, const int32_t set[7], int32_t width, int32_t height, int32_t record[10]) {
+    static const int32_t defaults[7] = {2, 1, 4, 2, 1, 0, 0};
+    int32_t r[10] = {0};
+    for (int k = 0; k < 7; k++) {
+        r[k] = given >> k & 1 ? set[k] : defaults[k];
+        if (k >= FULL) r[k] = r[k] != 0;
+    }
+    if (r[GPU] != 0) r[UP] = 0;
+    if (r[PEL] != 1 && r[PEL] != 2 && r[PEL] != 4) return 1;
+    if (r[GPU] < 0 || r[GPU] > 2) return 2;
+    if (r[PEL] != 1 && !r[FULL]) return 3;
+    if (r[LEAN] && (r[PEL] > 2 || r[GPU] != 1 || !r[FULL] || r[DOWN] != 4)) return 4;
+    if (width < 1 || width > MOST_SIDE || height < 1 || height > MOST_SIDE) return 5;
+    r[LEVELS] = levels_of(width, height), r[WIDTH] = width, r[HEIGHT] = height;
+    memcpy(record, r, sizeof r);
+    return 0;
+}
+
+/* "An accepted record is one this check can return": then it returns it for the record's own settings and size. */
+uint32_t rule_record(const int32_t *record, size_t count) {
+    int32_t again[10];
+    if (count != 10 || rule_check(127, record, record[WIDTH], record[HEIGHT], again)) return 6;
+    return memcmp(record, again, sizeof again) ? 6 : 0;
+}
+
+uint64_t rule_word(const int32_t r[10]) {
+    uint64_t fields[] = {(uint64_t)r[HEIGHT], (uint64_t)r[WIDTH], (uint64_t)r[PEL], (uint64_t)r[LEVELS], r[DOWN] != 4, (uint64_t)r[LEAN], (uint64_t)r[GPU], (uint64_t)r[RC], !r[FULL]};
+    static const int bits[] = {16, 16, 8, 6, 1, 1, 8, 1, 1};
+    uint64_t word = 0;
+    for (int k = 0, at = 0; k < 9; at += bits[k++]) word |= fields[k] << at;
+    return word;
+}
+
+/* The halving filters are 0 and 1 as one, 2, 3, 4 and none, the upscale filters 0, 1 and any other: one value of each is enough. */
+static const int32_t downs[] = {4, 0, 2, 3, 5}, ups[] = {0, 1, 2};
+
+/* Over the filters of one choice of the other settings: the records that pack to the word. What the first says is kept in `of`. */
+static int filters_of(uint64_t word, int32_t set[7], int32_t of[10], int *down_differs, int *up_differs) {
+    int found = 0;
+    int32_t r[10] = {0};
+    for (int k = 0; k < 15; k++) {
+        set[DOWN] = downs[k / 3], set[UP] = ups[k % 3];
+        if (rule_check(127, set, (int32_t)(word >> 16 & 65535), (int32_t)(word & 65535), r) || rule_word(r) != word) continue;
+        if (!found++) memcpy(of, r, sizeof r);
+        *down_differs |= r[DOWN] != of[DOWN], *up_differs |= r[UP] != of[UP];
+    }
+    return found;
+}
+
+/* Every setting is tried; a word has its records from one choice of all but the filters. */
+uint32_t rule_read(uint64_t word, int32_t told[12]) {
+    int32_t r[10] = {0};
+    int found = 0, down_differs = 0, up_differs = 0;
+    for (int k = 0; k < 72 && !found; k++) {
+        int32_t set[7] = {1 << k / 24, k / 8 % 3, 0, 0, k & 1, k >> 1 & 1, k >> 2 & 1};
+        found = filters_of(word, set, r, &down_differs, &up_differs);
+    }
+    if (!found) return 20;
+    int down = r[LEVELS] >= 2, up = r[PEL] > 1 && r[GPU] < 2 && r[FULL] && r[LEVELS] >= 1;
+    if (down && down_differs) return 21;
+    if (up && up_differs) return 22;
+    int32_t all[12] = {r[WIDTH], r[HEIGHT], r[PEL], r[LEVELS], r[GPU], r[FULL], r[RC], r[LEAN], down, down ? r[DOWN] : 0, up, up ? r[UP] : 0};
+    memcpy(told, all, sizeof all);
+    return 0;
+}
+
+uint32_t rule_alike(uint64_t a, uint64_t b) {
+    int32_t x[12], y[12];
+    if (rule_read(a, x) || rule_read(b, y)) return 0;
+    x[6] = x[7] = y[6] = y[7] = 0; /* rc and lean */
+    return !memcmp(x, y, sizeof x);
+}
+
+void rule_sizes(const int32_t r[10], int32_t sizes[2]) {
+    int64_t w = r[WIDTH], h = r[HEIGHT], once = reduced(w, 1), height;
+    if (r[LEAN]) height = 2;
+    else if (r[FULL]) {
+        height = r[PEL] * r[PEL] * h;
+        for (int k = 1; k < r[LEVELS]; k++) height += reduced(h, k);
+    } else {
+        int64_t by = once > 1 ? once : 1;
+        height = (w * h / 2 + by - 1) / by;
+        height += height % 2;
+    }
+    sizes[0] = (int32_t)(r[FULL] ? w : once), sizes[1] = (int32_t)height;
+}
+
+/* A level's width and height in this plane. */
+static size_t width_at(const layout *l, int level) { return (size_t)(reduced(l->record[WIDTH], level) >> l->x); }
+static size_t height_at(const layout *l, int level) { return (size_t)(reduced(l->record[HEIGHT], level) >> l->y); }
+static size_t planes_at(const layout *l, int level) { return level ? 1 : l->record[FULL] ? (size_t)(l->record[PEL] * l->record[PEL]) : 0; }
+
+uint32_t rule_layout(const layout *l) {
+    if (rule_record(l->record, l->count)) return 6;
+    if (l->x > 1 || l->y > 1) return 7;
+    size_t least = width_at(l, l->record[FULL] ? 0 : 1);
+    return l->pitch < (least > 1 ? least : 1) || l->pitch > MOST_PITCH ? 8 : 0;
+}
+
+static size_t offset_at(const layout *l, int level) {
+    size_t at = 0;
+    for (int k = 0; k < level; k++) at += planes_at(l, k) * height_at(l, k) * l->pitch;
+    return at;
+}
+
+void rule_regions(const layout *l, size_t regions[40]) {
+    memset(regions, 0, 40 * sizeof *regions);
+    regions[0] = (size_t)l->record[LEVELS];
+    for (int k = 0; k < l->record[LEVELS]; k++) {
+        regions[1 + k] = offset_at(l, k);
+        regions[1 + MOST_LEVELS + k] = width_at(l, k);
+        regions[1 + 2 * MOST_LEVELS + k] = height_at(l, k);
+    }
+}
+
+size_t rule_end(const layout *l) { return offset_at(l, l->record[LEVELS]); }
+
+void rule_needs(const layout *l, size_t needs[2]) {
+    needs[0] = !l->record[FULL] && l->record[LEVELS] >= 2 ? height_at(l, 1) * l->pitch : 16;
+    needs[1] = 16 * (l->pitch + 16);
+}
+
+uint32_t rule_frame(const layout *l, size_t frame) {
+    uint32_t no = rule_layout(l);
+    return no ? no : frame < rule_end(l) ? 11 : 0;
+}
+
+uint32_t rule_row(const layout *l, size_t frame, uint32_t level, size_t plane, size_t y, size_t place[2]) {
+    uint32_t no = rule_frame(l, frame);
+    if (no) return no;
+    if (level >= (uint32_t)l->record[LEVELS] || plane >= planes_at(l, (int)level) || y >= height_at(l, (int)level)) return 19;
+    place[0] = offset_at(l, (int)level) + (plane * height_at(l, (int)level) + y) * l->pitch;
+    place[1] = width_at(l, (int)level);
+    return 0;
+}
+
+size_t rule_source(const layout *l, size_t src_pitch) {
+    size_t w = width_at(l, 0), h = height_at(l, 0);
+    return w && h ? (h - 1) * src_pitch + w : 0;
+}
+
+uint32_t rule_build(const layout *l, const lengths *n) {
+    uint32_t no = rule_layout(l);
+    if (no) return no;
+    size_t least = width_at(l, 0), needs[2];
+    rule_needs(l, needs);
+    if (n->src_pitch < (least > 1 ? least : 1) || n->src_pitch > MOST_PITCH) return 9;
+    if (n->src < rule_source(l, n->src_pitch)) return 10;
+    if (n->frame < rule_end(l)) return 11;
+    if (n->spill < needs[0]) return 12;
+    return n->scratch < needs[1] ? 13 : 0;
+}
