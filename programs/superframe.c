@@ -1,0 +1,318 @@
+/* superframe: builds the super frame of a picture, shows it, and says what was built. It works through the library alone (include/sillcandle.h).
+   In order: messages; the command line; reading a PGM; the frame; what is printed; the pictures that are written. */
+#include <errno.h>
+#include <inttypes.h>
+#include <stdarg.h>
+#include <stdio.h>
+#include <stdlib.h>
+#include <string.h>
+
+#include "sillcandle.h"
+
+enum { REFUSED = 1, UNUSABLE = 2 };
+
+static const char help[] =
+    "superframe PICTURE.pgm [FLAG VALUE]..\n"
+    "Builds the super frame of an 8-bit binary PGM picture: the levels that motion search reads, with their sub-pel planes.\n"
+    "Prints the word that a report stores, the settings and the layout.\n"
+    "\n"
+    "Settings; one that isn't given has its default:\n"
+    "  --pel N        1, 2 or 4: level 0 is kept as N * N planes (default 2)\n"
+    "  --gpu N        0, 1 or 2: at 2 the planes between are left to the GPU; up counts only at 0 (default 1)\n"
+    "  --down N       how levels are halved: 0 or 1 average, 2 bilinear, 3 quadratic, 4 cubic (default 4)\n"
+    "  --up N         how planes between are made: 0 bilinear, 1 bicubic, any other Wiener (default 2)\n"
+    "  --full yes|no  whether level 0 is kept (default yes)\n"
+    "  --rc yes|no    a mark in the word, without effect on the build (default no)\n"
+    "  --lean yes|no  likewise, and the super frame is said to be 2 high (default no)\n"
+    "Layout:\n"
+    "  --pitch N      bytes from row to row (default: a row, raised to a multiple of 16)\n"
+    "  --shift-x N    1: PICTURE is a plane of half the width of its picture, as chroma is (default 0)\n"
+    "  --shift-y N    1: the same for the height (default 0)\n"
+    "Output:\n"
+    "  -o OUT.pgm        the built frame; its rows are the pitch\n"
+    "  --view SHEET.pgm  a contact sheet: level 0's planes side by side, the smaller levels below\n"
+    "  --help            this text\n"
+    "\n"
+    "Exit status: 0 built; 1 refused, with document 01's number; 2 the command line or a file is not usable.\n";
+
+static void unusable(const char *text, ...) {
+    va_list args;
+    va_start(args, text);
+    fflush(stdout);
+    fputs("superframe: ", stderr);
+    vfprintf(stderr, text, args);
+    fputc('\n', stderr);
+    va_end(args);
+    exit(UNUSABLE);
+}
+
+static const char *sentence(uint32_t number) {
+    static const char *const all[] = {
+        [SILL_PEL] = "pel isn't 1, 2 or 4",
+        [SILL_GPU] = "gpu isn't 0, 1 or 2",
+        [SILL_FINEST] = "pel 2 or 4, and not full",
+        [SILL_LEAN] = "lean, and pel above 2, gpu not 1, not full or down not 4",
+        [SILL_SIZE] = "width or height outside 1 to 16,384",
+        [SILL_RECORD_NO] = "a record handed in is no accepted record",
+        [SILL_SHIFT] = "a shift above 1",
+        [SILL_PITCH] = "pitch below max(1, least) or above 32,768; least is level 0's width if full, else level 1's",
+        [SILL_SOURCE_PITCH] = "source pitch below max(1, level 0's width) or above 32,768",
+        [SILL_SOURCE] = "source shorter than (h - 1) * source pitch + w",
+        [SILL_FRAME] = "frame shorter than the written end",
+        [SILL_SPILL] = "spill shorter than its need",
+        [SILL_SCRATCH] = "scratch shorter than 16 * (pitch + 16)",
+        [SILL_LEVELS] = "more than 63 levels",
+        [SILL_ROOM] = "a slice lent for the answer is shorter than the answer",
+        [SILL_NO_ROW] = "no such level, plane or row is stored",
+        [SILL_NO_CODE] = "the word is no code",
+        [SILL_DOWN_OPEN] = "halving filter isn't told",
+        [SILL_UP_OPEN] = "upscale filter isn't told",
+    };
+    return number < sizeof all / sizeof *all && all[number] ? all[number] : "a number that isn't known here";
+}
+
+/* Ends the program where a call refused. */
+static void done(uint32_t number) {
+    if (number == SILL_DONE) return;
+    fprintf(stderr, "superframe: refused, %" PRIu32 ": %s\n", number, sentence(number));
+    exit(REFUSED);
+}
+
+static uint8_t *zeros(size_t n) {
+    uint8_t *p = calloc(n ? n : 1, 1);
+    if (!p) unusable("no memory for %zu bytes", n);
+    return p;
+}
+
+/* The command line. */
+typedef struct {
+    uint32_t given;
+    int32_t set[7];
+    uint64_t pitch, x, y;
+    int pitch_given;
+    const char *in, *out, *view;
+} options;
+
+static int64_t number(const char *flag, const char *text, int64_t least, int64_t most) {
+    char *end;
+    errno = 0;
+    long long n = strtoll(text, &end, 10);
+    if (end == text || *end || errno || n < least || n > most) unusable("%s %s: a whole number from %" PRId64 " to %" PRId64 " is wanted", flag, text, least, most);
+    return n;
+}
+
+static int32_t answer(const char *flag, const char *text) {
+    if (!strcmp(text, "yes")) return 1;
+    if (strcmp(text, "no")) unusable("%s %s: yes or no is wanted", flag, text);
+    return 0;
+}
+
+static void one_flag(options *o, const char *flag, const char *value) {
+    static const char *const settings[] = {"--pel", "--gpu", "--down", "--up", "--full", "--rc", "--lean"};
+    for (int k = 0; k < 7; k++) {
+        if (strcmp(flag, settings[k])) continue;
+        o->given |= 1u << k;
+        o->set[k] = k < 4 ? (int32_t)number(flag, value, INT32_MIN, INT32_MAX) : answer(flag, value);
+        return;
+    }
+    if (!strcmp(flag, "--pitch")) o->pitch = (uint64_t)number(flag, value, 0, INT64_MAX), o->pitch_given = 1;
+    else if (!strcmp(flag, "--shift-x")) o->x = (uint64_t)number(flag, value, 0, UINT32_MAX);
+    else if (!strcmp(flag, "--shift-y")) o->y = (uint64_t)number(flag, value, 0, UINT32_MAX);
+    else if (!strcmp(flag, "-o")) o->out = value;
+    else if (!strcmp(flag, "--view")) o->view = value;
+    else unusable("%s: no such flag; --help lists them", flag);
+}
+
+static options command_line(int argc, char **argv) {
+    options o = {0};
+    for (int k = 1; k < argc; k++) {
+        if (!strcmp(argv[k], "--help")) fputs(help, stdout), exit(0);
+        if (argv[k][0] != '-') {
+            if (o.in) unusable("%s: one picture is taken, and %s is it", argv[k], o.in);
+            o.in = argv[k];
+            continue;
+        }
+        if (k + 1 == argc) unusable("%s: its value is missing; --help lists the flags", argv[k]);
+        one_flag(&o, argv[k], argv[k + 1]);
+        k++;
+    }
+    if (!o.in) unusable("which picture? usage: superframe PICTURE.pgm [FLAG VALUE]..; --help says more");
+    return o;
+}
+
+static int white(int c) { return c == ' ' || (c >= '\t' && c <= '\r'); }
+
+/* A number of a PGM's header, after white space and comments. */
+static int32_t header_number(FILE *f, const char *name, const char *what) {
+    int c = getc(f), digits = 0;
+    while (white(c) || c == '#') {
+        if (c == '#') while (c != '\n' && c != EOF) c = getc(f);
+        c = getc(f);
+    }
+    int64_t n = 0;
+    for (; c >= '0' && c <= '9'; c = getc(f), digits++) {
+        n = 10 * n + c - '0';
+        if (n > INT32_MAX) unusable("%s: its header has a %s of more than %d", name, what, INT32_MAX);
+    }
+    /* The byte after the number is taken too: after the last one, the samples begin. */
+    if (c == EOF) unusable("%s: it ends in its header", name);
+    if (!digits || !white(c)) unusable("%s: its header has no %s", name, what);
+    return (int32_t)n;
+}
+
+typedef struct {
+    FILE *f;
+    int32_t width, height;
+} picture;
+
+static picture opened(const char *name) {
+    picture p = {.f = fopen(name, "rb")};
+    if (!p.f) unusable("%s: %s", name, strerror(errno));
+    int a = getc(p.f), b = getc(p.f);
+    if (a != 'P' || b != '5') unusable("%s: no binary PGM, which begins with P5", name);
+    p.width = header_number(p.f, name, "width");
+    p.height = header_number(p.f, name, "height");
+    int32_t largest = header_number(p.f, name, "largest sample");
+    if (largest != 255) unusable("%s: its largest sample is %d; only 255, 8 bits a sample, is taken", name, largest);
+    return p;
+}
+
+static uint8_t *samples(const picture *p, const char *name) {
+    size_t want = (size_t)p->width * (size_t)p->height;
+    uint8_t *src = zeros(want);
+    size_t got = fread(src, 1, want, p->f);
+    if (got != want) unusable("%s: its header says %zu bytes of samples, and there are %zu", name, want, got);
+    fclose(p->f);
+    return src;
+}
+
+/* The frame: a record, how it is laid out, and its bytes. */
+typedef struct {
+    int32_t record[SILL_RECORD], sizes[SILL_SIZES];
+    uint32_t x, y;
+    size_t pitch, end, needs[SILL_NEEDS], regions[SILL_REGIONS];
+    uint64_t word;
+    uint8_t *bytes;
+} frame;
+
+/* The picture is a plane; what the record has is the size of the picture that it is a plane of. A shift above 1 is left to the layout to refuse. */
+static int32_t luma(int32_t side, uint64_t shift) {
+    int64_t n = shift == 1 ? 2 * (int64_t)side : side;
+    return n > INT32_MAX ? INT32_MAX : (int32_t)n;
+}
+
+static frame laid_out(const options *o, const picture *p) {
+    frame f = {.x = (uint32_t)o->x, .y = (uint32_t)o->y};
+    const int32_t *s = o->set;
+    done(sill_check(o->given, s[0], s[1], s[2], s[3], s[4], s[5], s[6], luma(p->width, o->x), luma(p->height, o->y), f.record, SILL_RECORD));
+    done(sill_pack_data(f.record, SILL_RECORD, &f.word, SILL_WORD));
+    done(sill_super_sizes(f.record, SILL_RECORD, f.sizes, SILL_SIZES));
+    f.pitch = o->pitch_given ? (size_t)o->pitch : ((size_t)p->width + 15) / 16 * 16;
+    done(sill_level_regions(f.record, SILL_RECORD, f.x, f.y, f.pitch, f.regions, SILL_REGIONS));
+    done(sill_written_end(f.record, SILL_RECORD, f.x, f.y, f.pitch, &f.end, SILL_END));
+    done(sill_needs(f.record, SILL_RECORD, f.x, f.y, f.pitch, f.needs, SILL_NEEDS));
+    return f;
+}
+
+static void build(frame *f, const picture *p, const uint8_t *src) {
+    uint8_t *spill = zeros(f->needs[0]), *scratch = zeros(f->needs[1]);
+    f->bytes = zeros(f->end);
+    done(sill_build_plane(f->bytes, f->end, spill, f->needs[0], scratch, f->needs[1], f->record, SILL_RECORD, f->x, f->y, f->pitch, src, (size_t)p->width * (size_t)p->height, (size_t)p->width));
+    free(spill), free(scratch);
+}
+
+static size_t planes(const frame *f, size_t level) {
+    return level ? 1 : f->record[SILL_AT_FULL] ? (size_t)(f->record[SILL_AT_PEL] * f->record[SILL_AT_PEL]) : 0;
+}
+
+/* What is printed. */
+static const char *yes_or_no(int32_t flag) { return flag ? "yes" : "no"; }
+
+static void print_settings(const frame *f) {
+    const int32_t *r = f->record;
+    static const char *const downs[] = {"average", "average", "bilinear", "quadratic", "cubic"}, *const ups[] = {"bilinear", "bicubic"};
+    int32_t down = r[SILL_AT_DOWN], up = r[SILL_AT_UP], told[SILL_TOLD];
+    int refined = r[SILL_AT_PEL] > 1 && r[SILL_AT_GPU] < 2 && f->regions[0] > 0;
+    printf("settings  pel %d, gpu %d, down %d (%s), up %d (%s), full %s, rc %s, lean %s\n", r[SILL_AT_PEL], r[SILL_AT_GPU],
+           down, f->regions[0] < 2 ? "no part in this build" : down >= 0 && down <= 4 ? downs[down] : "none: later levels stay unwritten",
+           up, !refined ? "no part in this build" : up >= 0 && up <= 1 ? ups[up] : "Wiener",
+           yes_or_no(r[SILL_AT_FULL]), yes_or_no(r[SILL_AT_RC]), yes_or_no(r[SILL_AT_LEAN]));
+    uint32_t open = sill_read_word(f->word, told, SILL_TOLD);
+    printf("read back %" PRIu32 ": %s\n", open, open ? sentence(open) : "the word names this build and no other");
+}
+
+static void print_layout(const frame *f) {
+    printf("super     %dx%d\n", f->sizes[0], f->sizes[1]);
+    printf("pitch     %zu\nframe     %zu bytes; a build is lent %zu of spill and %zu of scratch\n", f->pitch, f->end, f->needs[0], f->needs[1]);
+    printf("%5s %7s %11s %7s %7s %11s\n", "level", "planes", "offset", "width", "height", "end");
+    for (size_t k = 0; k < f->regions[0]; k++) {
+        size_t at = f->regions[SILL_REGION_OFFSET + k], height = f->regions[SILL_REGION_HEIGHT + k];
+        printf("%5zu %7zu %11zu %7zu %7zu %11zu\n", k, planes(f, k), at, f->regions[SILL_REGION_WIDTH + k], height, at + planes(f, k) * height * f->pitch);
+    }
+}
+
+static void print_all(const frame *f, const options *o, const picture *p) {
+    printf("picture   %s, %dx%d", o->in, p->width, p->height);
+    if (f->x || f->y) printf(", a plane of %dx%d", f->record[SILL_AT_WIDTH], f->record[SILL_AT_HEIGHT]);
+    printf("\nword      %016" PRIx64 "\n", f->word);
+    print_settings(f);
+    print_layout(f);
+}
+
+/* The pictures. */
+static void write_pgm(const char *name, size_t width, size_t height, const uint8_t *bytes) {
+    FILE *f = fopen(name, "wb");
+    if (!f) unusable("%s: %s", name, strerror(errno));
+    fprintf(f, "P5\n%zu %zu\n255\n", width, height);
+    fwrite(bytes, 1, width * height, f);
+    int bad = ferror(f);
+    if (fclose(f) || bad) unusable("%s: it couldn't be written whole", name);
+    printf("wrote     %s, %zux%zu\n", name, width, height);
+}
+
+enum { GAP = 8, GROUND = 40 };
+typedef struct {
+    size_t width, height;
+    uint8_t *bytes;
+} sheet;
+
+static void show(const frame *f, sheet *s, size_t level, size_t plane, size_t left, size_t top) {
+    size_t place[SILL_PLACE];
+    for (size_t y = 0; y < f->regions[SILL_REGION_HEIGHT + level]; y++) {
+        done(sill_row(f->end, f->record, SILL_RECORD, f->x, f->y, f->pitch, (uint32_t)level, plane, y, place, SILL_PLACE));
+        memcpy(s->bytes + (top + y) * s->width + left, f->bytes + place[0], place[1]);
+    }
+}
+
+/* Level 0's planes in pel rows of pel, as their samples lie between the picture's; the smaller levels in a row below. */
+static void view(const frame *f, const char *name) {
+    size_t across = planes(f, 0) ? (size_t)f->record[SILL_AT_PEL] : 0, width = f->regions[SILL_REGION_WIDTH] + GAP, height = f->regions[SILL_REGION_HEIGHT] + GAP;
+    sheet s = {.width = GAP + across * width, .height = GAP + across * height};
+    size_t below = s.height, smaller = GAP;
+    for (size_t k = 1; k < f->regions[0]; k++) smaller += f->regions[SILL_REGION_WIDTH + k] + GAP;
+    if (smaller > s.width) s.width = smaller;
+    if (f->regions[0] > 1) s.height += f->regions[SILL_REGION_HEIGHT + 1] + GAP;
+    s.bytes = zeros(s.width * s.height);
+    memset(s.bytes, GROUND, s.width * s.height);
+    for (size_t k = 0; k < planes(f, 0); k++) show(f, &s, 0, k, GAP + k % across * width, GAP + k / across * height);
+    for (size_t k = 1, left = GAP; k < f->regions[0]; k++) {
+        show(f, &s, k, 0, left, below);
+        left += f->regions[SILL_REGION_WIDTH + k] + GAP;
+    }
+    write_pgm(name, s.width, s.height, s.bytes);
+    free(s.bytes);
+}
+
+int main(int argc, char **argv) {
+    options o = command_line(argc, argv);
+    picture p = opened(o.in);
+    frame f = laid_out(&o, &p);
+    uint8_t *src = samples(&p, o.in);
+    build(&f, &p, src);
+    print_all(&f, &o, &p);
+    if (!f.end && (o.out || o.view)) puts("nothing is stored of this plane, so no picture is written");
+    if (f.end && o.out) write_pgm(o.out, f.pitch, f.end / f.pitch, f.bytes);
+    if (f.end && o.view) view(&f, o.view);
+    free(src), free(f.bytes);
+    return 0;
+}
