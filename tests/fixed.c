@@ -111,7 +111,7 @@ static void words(void) {
 static void alike(void) {
     const uint64_t word = 0x0001040200400030, rc = 1ull << 56, lean = 1ull << 47;
     is(try_alike(word, word), 1), is(try_alike(word, word | rc), 1), is(try_alike(word | rc, word | lean), 1);
-    is(try_alike(word, 0x0001410200040004), 0), is(try_alike(word, 0x0001040100400030), 0);
+    is(try_alike(word, 0x0001410200040004), 0), is(try_alike(word, 0x0001040100400030), 0), is(try_alike(0x0001410200040004, 0x0001010200040004), 0);
     /* A word that doesn't tell its build isn't even like itself. */
     is(try_alike(0x0000040200400030, 0x0000040200400030), 0), is(try_alike(0, 0), 0), is(try_alike(UINT64_MAX, UINT64_MAX), 0);
 }

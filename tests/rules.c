@@ -84,11 +84,11 @@ uint32_t rule_read(uint64_t word, int32_t told[12]) {
     return 0;
 }
 
+/* "They agree in all but rc and lean": in their bits (docs/DECISIONS.md). */
 uint32_t rule_alike(uint64_t a, uint64_t b) {
-    int32_t x[12], y[12];
-    if (rule_read(a, x) || rule_read(b, y)) return 0;
-    x[6] = x[7] = y[6] = y[7] = 0; /* rc and lean */
-    return !memcmp(x, y, sizeof x);
+    int32_t told[12];
+    const uint64_t rc = (uint64_t)1 << 56, lean = (uint64_t)1 << 47;
+    return !rule_read(a, told) && !rule_read(b, told) && ((a ^ b) | rc | lean) == (rc | lean);
 }
 
 void rule_sizes(const int32_t r[10], int32_t sizes[2]) {
