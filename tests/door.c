@@ -8,9 +8,9 @@
 #include "door.h"
 
 #ifdef RUST
-#define BESIDE "the rules and the Rust"
+#define HELD "numbers, answers and bytes are those of the rules and the Rust"
 #else
-#define BESIDE "the rules"
+#define HELD "numbers and answers are those of the rules"
 #endif
 
 int main(int argc, char **argv) {
@@ -23,6 +23,6 @@ int main(int argc, char **argv) {
     calls_open();
     fixed_cases();
     random_calls(count);
-    printf("door: %" PRIu64 " random calls, seed %" PRIu64 ": numbers, answers and bytes are those of " BESIDE "; no other byte was touched\n", count, from);
+    printf("door: %" PRIu64 " random calls, seed %" PRIu64 ": " HELD "; no other byte was touched\n", count, from);
     return 0;
 }
