@@ -117,7 +117,7 @@ uint32_t sill_pack_data(const int32_t *record, size_t record_count, uint64_t *wo
    Numbers: 15 SILL_ROOM, 20 SILL_NO_CODE, 21 SILL_DOWN_OPEN, 22 SILL_UP_OPEN. */
 uint32_t sill_read_word(uint64_t word, int32_t *told, size_t told_count);
 
-/* 1 if both words name one build and they agree in all but rc and lean, else 0. The answer is no number of document 01. */
+/* 1 if both words name one build and all their bits but those of rc and lean agree, else 0. The answer is no number of document 01. */
 uint32_t sill_prepare_alike(uint64_t a, uint64_t b);
 
 /* The size of the super frame that a record asks for. Writes SILL_SIZES numbers: width, height.
