@@ -21,28 +21,30 @@ static void *bytes(size_t n) {
 
 int main(void) {
     /* Pel 1; every other setting has its default. */
-    int32_t record[SILL_RECORD];
-    done("sill_check", sill_check(SILL_GIVEN_PEL, 1, 0, 0, 0, 0, 0, 0, SIDE, SIDE, record, SILL_RECORD));
+    int32_t record[SILL_COUNT_RECORD];
+    done("sill_check", sill_check(SILL_GIVEN_PEL, 1, 0, 0, 0, 0, 0, 0, SIDE, SIDE, record, SILL_COUNT_RECORD));
 
     uint64_t word;
-    done("sill_pack_data", sill_pack_data(record, SILL_RECORD, &word, 1));
+    done("sill_pack_data", sill_pack_data(record, SILL_COUNT_RECORD, &word, SILL_COUNT_WORD));
     printf("word %016" PRIx64 "\n", word);
 
-    size_t end, needs[SILL_NEEDS];
-    done("sill_written_end", sill_written_end(record, SILL_RECORD, 0, 0, PITCH, &end, 1));
-    done("sill_needs", sill_needs(record, SILL_RECORD, 0, 0, PITCH, needs, SILL_NEEDS));
-    printf("frame %zu, spill %zu, scratch %zu bytes\n", end, needs[0], needs[1]);
+    size_t end, needs[SILL_COUNT_NEEDS];
+    done("sill_written_end", sill_written_end(record, SILL_COUNT_RECORD, 0, 0, PITCH, &end, SILL_COUNT_END));
+    done("sill_needs", sill_needs(record, SILL_COUNT_RECORD, 0, 0, PITCH, needs, SILL_COUNT_NEEDS));
+    size_t of_spill = needs[SILL_NEED_SPILL], of_scratch = needs[SILL_NEED_SCRATCH];
+    printf("frame %zu, spill %zu, scratch %zu bytes\n", end, of_spill, of_scratch);
 
     uint8_t source[SIDE * SIDE];
     for (int i = 0; i < SIDE * SIDE; i++) source[i] = (uint8_t)(3 * i);
-    uint8_t *frame = bytes(end), *spill = bytes(needs[0]), *scratch = bytes(needs[1]);
-    done("sill_build_plane", sill_build_plane(frame, end, spill, needs[0], scratch, needs[1], record, SILL_RECORD, 0, 0, PITCH, source, sizeof source, SIDE));
+    uint8_t *frame = bytes(end), *spill = bytes(of_spill), *scratch = bytes(of_scratch);
+    done("sill_build_plane", sill_build_plane(frame, end, spill, of_spill, scratch, of_scratch, record, SILL_COUNT_RECORD, 0, 0, PITCH, source, sizeof source, SIDE));
 
     /* Level 1, a row a line. */
-    size_t place[SILL_PLACE];
-    for (size_t y = 0; sill_row(end, record, SILL_RECORD, 0, 0, PITCH, 1, 0, y, place, SILL_PLACE) == SILL_DONE; y++) {
+    size_t place[SILL_COUNT_PLACE];
+    for (size_t y = 0; sill_row(end, record, SILL_COUNT_RECORD, 0, 0, PITCH, 1, 0, y, place, SILL_COUNT_PLACE) == SILL_DONE; y++) {
         printf("level 1, row %zu:", y);
-        for (size_t x = 0; x < place[1]; x++) printf(" %d", frame[place[0] + x]);
+        const uint8_t *row = frame + place[SILL_PLACE_OFFSET];
+        for (size_t x = 0; x < place[SILL_PLACE_LENGTH]; x++) printf(" %d", row[x]);
         putchar('\n');
     }
     free(frame), free(spill), free(scratch);

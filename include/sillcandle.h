@@ -9,10 +9,10 @@
    number of one that is too short. Two slices of a call must not overlap.
 
    Answers. They go to the front of a slice that is lent for them. If it has fewer elements than the answer the number is
-   SILL_ROOM; elements past the answer stay as they are. A call that doesn't return 0 changes nothing that it was lent.
+   SILL_NO_ROOM; elements past the answer stay as they are. A call that doesn't return 0 changes nothing that it was lent.
 
-   Records. A record is SILL_RECORD numbers: pel, gpu, down, up, full, rc, lean, levels, width, height. It comes from sill_check.
-   Anything else, as another count, a flag neither 0 nor 1 or numbers that sill_check can't give, is refused with SILL_RECORD_NO.
+   Records. A record is SILL_COUNT_RECORD numbers: pel, gpu, down, up, full, rc, lean, levels, width, height. It comes from sill_check.
+   Anything else, as another count, a flag neither 0 nor 1 or numbers that sill_check can't give, is refused with SILL_NO_RECORD.
 
    Layouts. A plane is laid out by a record, two shifts and a pitch: it has (width >> x_shift) by (height >> y_shift) bytes,
    0 for a plane of the picture's own size and 1 for one of half its width or height; rows of a frame begin pitch bytes apart.
@@ -28,40 +28,40 @@
 extern "C" {
 #endif
 
-/* The numbers of a call, as document 01's table says them. */
+/* The numbers of a call: SILL_BAD_ where something handed in doesn't do, SILL_NO_ where something isn't there. */
 enum {
     SILL_DONE = 0,
-    SILL_PEL = 1,          /* pel isn't 1, 2 or 4 */
-    SILL_GPU = 2,          /* gpu isn't 0, 1 or 2 */
-    SILL_FINEST = 3,       /* pel 2 or 4, and not full */
-    SILL_LEAN = 4,         /* lean, and pel above 2, gpu not 1, not full or down not 4 */
-    SILL_SIZE = 5,         /* width or height outside 1 to 16,384 */
-    SILL_RECORD_NO = 6,    /* a record handed in is no accepted record */
-    SILL_SHIFT = 7,        /* a shift above 1 */
-    SILL_PITCH = 8,        /* pitch below max(1, least) or above 32,768; least is level 0's width if full, else level 1's */
-    SILL_SOURCE_PITCH = 9, /* source pitch below max(1, level 0's width) or above 32,768 */
-    SILL_SOURCE = 10,      /* source shorter than (h - 1) * source pitch + w; 0 bytes suffice if w or h is 0 */
-    SILL_FRAME = 11,       /* frame shorter than the written end */
-    SILL_SPILL = 12,       /* spill shorter than its need */
-    SILL_SCRATCH = 13,     /* scratch shorter than 16 * (pitch + 16) */
-    SILL_LEVELS = 14,      /* packing: more than 63 levels */
-    SILL_ROOM = 15,        /* a slice lent for the answer is shorter than the answer */
-    SILL_NO_ROW = 19,      /* no such level, plane or row is stored */
-    SILL_NO_CODE = 20,     /* the word is no code */
-    SILL_DOWN_OPEN = 21,   /* halving filter isn't told */
-    SILL_UP_OPEN = 22      /* upscale filter isn't told */
+    SILL_BAD_PEL = 1,          /* pel isn't 1, 2 or 4 */
+    SILL_BAD_GPU = 2,          /* gpu isn't 0, 1 or 2 */
+    SILL_BAD_FULL = 3,         /* pel 2 or 4, and not full */
+    SILL_BAD_LEAN = 4,         /* lean, and pel above 2, gpu not 1, not full or down not 4 */
+    SILL_BAD_SIZE = 5,         /* width or height outside 1 to 16,384 */
+    SILL_NO_RECORD = 6,        /* a record handed in is no accepted record */
+    SILL_BAD_SHIFT = 7,        /* a shift above 1 */
+    SILL_BAD_PITCH = 8,        /* pitch below max(1, least) or above 32,768; least is level 0's width if full, else level 1's */
+    SILL_BAD_SOURCE_PITCH = 9, /* source pitch below max(1, level 0's width) or above 32,768 */
+    SILL_BAD_SOURCE = 10,      /* source shorter than (h - 1) * source pitch + w; 0 bytes suffice if w or h is 0 */
+    SILL_BAD_FRAME = 11,       /* frame shorter than the written end */
+    SILL_BAD_SPILL = 12,       /* spill shorter than its need */
+    SILL_BAD_SCRATCH = 13,     /* scratch shorter than 16 * (pitch + 16) */
+    SILL_BAD_LEVELS = 14,      /* packing: more than 63 levels */
+    SILL_NO_ROOM = 15,         /* a slice lent for the answer is shorter than the answer */
+    SILL_NO_ROW = 19,          /* no such level, plane or row is stored */
+    SILL_NO_CODE = 20,         /* the word is no code */
+    SILL_NO_DOWN = 21,         /* halving filter isn't told */
+    SILL_NO_UP = 22            /* upscale filter isn't told */
 };
 
 /* How many elements a record has, and each call's answer. */
 enum {
-    SILL_RECORD = 10,
-    SILL_WORD = 1,
-    SILL_TOLD = 12,
-    SILL_SIZES = 2,
-    SILL_REGIONS = 40,
-    SILL_END = 1,
-    SILL_NEEDS = 2,
-    SILL_PLACE = 2
+    SILL_COUNT_RECORD = 10,
+    SILL_COUNT_WORD = 1,
+    SILL_COUNT_TOLD = 12,
+    SILL_COUNT_SIZES = 2,
+    SILL_COUNT_REGIONS = 40,
+    SILL_COUNT_END = 1,
+    SILL_COUNT_NEEDS = 2,
+    SILL_COUNT_PLACE = 2
 };
 
 /* The places of a record. */
@@ -85,6 +85,11 @@ enum {
     SILL_REGION_HEIGHT = 27
 };
 
+/* The places of a super frame's sizes, of what a build needs, and of where a row lies. */
+enum { SILL_SIZE_WIDTH, SILL_SIZE_HEIGHT };
+enum { SILL_NEED_SPILL, SILL_NEED_SCRATCH };
+enum { SILL_PLACE_OFFSET, SILL_PLACE_LENGTH };
+
 /* The bits of `given`: which settings are present. */
 enum {
     SILL_GIVEN_PEL = 1,
@@ -98,62 +103,62 @@ enum {
 
 /* Checks settings and a size. A setting whose bit isn't in `given` has its default: pel 2, gpu 1, down 4, up 2, full yes, rc no,
    lean no; other bits don't count. A flag is yes unless it is 0. If gpu isn't 0, up becomes 0.
-   Writes a record, SILL_RECORD numbers.
-   Numbers: 1 SILL_PEL, 2 SILL_GPU, 3 SILL_FINEST, 4 SILL_LEAN, 5 SILL_SIZE, 15 SILL_ROOM. */
+   Writes a record, SILL_COUNT_RECORD numbers.
+   Numbers: 1 SILL_BAD_PEL, 2 SILL_BAD_GPU, 3 SILL_BAD_FULL, 4 SILL_BAD_LEAN, 5 SILL_BAD_SIZE, 15 SILL_NO_ROOM. */
 uint32_t sill_check(uint32_t given, int32_t pel, int32_t gpu, int32_t down, int32_t up, int32_t full, int32_t rc, int32_t lean,
                     int32_t width, int32_t height, int32_t *record, size_t record_count);
 
 /* Whether a record is one that sill_check can give.
-   Numbers: 6 SILL_RECORD_NO. */
+   Numbers: 6 SILL_NO_RECORD. */
 uint32_t sill_accepted(const int32_t *record, size_t record_count);
 
 /* The word of a record. Writes 1 number.
-   Numbers: 6 SILL_RECORD_NO, 14 SILL_LEVELS (no accepted record has so many), 15 SILL_ROOM. */
+   Numbers: 6 SILL_NO_RECORD, 14 SILL_BAD_LEVELS (no accepted record has so many), 15 SILL_NO_ROOM. */
 uint32_t sill_pack_data(const int32_t *record, size_t record_count, uint64_t *word, size_t word_count);
 
-/* What a stored word tells. Writes SILL_TOLD numbers: width, height, pel, levels, gpu, full, rc, lean, then whether down matters
+/* What a stored word tells. Writes SILL_COUNT_TOLD numbers: width, height, pel, levels, gpu, full, rc, lean, then whether down matters
    and down, whether up matters and up; a filter that has no part in the build is 0.
    0 is given only where every record that packs to the word has what is told.
-   Numbers: 15 SILL_ROOM, 20 SILL_NO_CODE, 21 SILL_DOWN_OPEN, 22 SILL_UP_OPEN. */
+   Numbers: 15 SILL_NO_ROOM, 20 SILL_NO_CODE, 21 SILL_NO_DOWN, 22 SILL_NO_UP. */
 uint32_t sill_read_word(uint64_t word, int32_t *told, size_t told_count);
 
 /* 1 if both words name one build and all their bits but those of rc and lean agree, else 0. The answer is no number of document 01. */
 uint32_t sill_prepare_alike(uint64_t a, uint64_t b);
 
-/* The size of the super frame that a record asks for. Writes SILL_SIZES numbers: width, height.
-   Numbers: 6 SILL_RECORD_NO, 15 SILL_ROOM. */
+/* The size of the super frame that a record asks for. Writes SILL_COUNT_SIZES numbers: width, height.
+   Numbers: 6 SILL_NO_RECORD, 15 SILL_NO_ROOM. */
 uint32_t sill_super_sizes(const int32_t *record, size_t record_count, int32_t *sizes, size_t sizes_count);
 
-/* Where a plane's levels lie. Writes SILL_REGIONS numbers: the count of levels, 13 offsets, 13 widths, 13 heights, zeros past the
+/* Where a plane's levels lie. Writes SILL_COUNT_REGIONS numbers: the count of levels, 13 offsets, 13 widths, 13 heights, zeros past the
    last level. Level 0 keeps pel * pel planes, each of height * pitch bytes, one after another, or none if the record isn't full.
-   Numbers: 6 SILL_RECORD_NO, 7 SILL_SHIFT, 8 SILL_PITCH, 15 SILL_ROOM. */
+   Numbers: 6 SILL_NO_RECORD, 7 SILL_BAD_SHIFT, 8 SILL_BAD_PITCH, 15 SILL_NO_ROOM. */
 uint32_t sill_level_regions(const int32_t *record, size_t record_count, uint32_t x_shift, uint32_t y_shift, size_t pitch,
                             size_t *regions, size_t regions_count);
 
 /* The end of the last level: how long a frame has to be. Writes 1 number.
-   Numbers: 6 SILL_RECORD_NO, 7 SILL_SHIFT, 8 SILL_PITCH, 15 SILL_ROOM. */
+   Numbers: 6 SILL_NO_RECORD, 7 SILL_BAD_SHIFT, 8 SILL_BAD_PITCH, 15 SILL_NO_ROOM. */
 uint32_t sill_written_end(const int32_t *record, size_t record_count, uint32_t x_shift, uint32_t y_shift, size_t pitch,
                           size_t *end, size_t end_count);
 
-/* How many bytes a build has to be lent. Writes SILL_NEEDS numbers: of spill, of scratch.
-   Numbers: 6 SILL_RECORD_NO, 7 SILL_SHIFT, 8 SILL_PITCH, 15 SILL_ROOM. */
+/* How many bytes a build has to be lent. Writes SILL_COUNT_NEEDS numbers: of spill, of scratch.
+   Numbers: 6 SILL_NO_RECORD, 7 SILL_BAD_SHIFT, 8 SILL_BAD_PITCH, 15 SILL_NO_ROOM. */
 uint32_t sill_needs(const int32_t *record, size_t record_count, uint32_t x_shift, uint32_t y_shift, size_t pitch,
                     size_t *needs, size_t needs_count);
 
 /* Zeroes the bytes from a level's width to the pitch, in later levels that a build leaves them in.
-   Numbers: 6 SILL_RECORD_NO, 7 SILL_SHIFT, 8 SILL_PITCH, 11 SILL_FRAME. */
+   Numbers: 6 SILL_NO_RECORD, 7 SILL_BAD_SHIFT, 8 SILL_BAD_PITCH, 11 SILL_BAD_FRAME. */
 uint32_t sill_clear_margins(uint8_t *frame, size_t frame_count, const int32_t *record, size_t record_count,
                             uint32_t x_shift, uint32_t y_shift, size_t pitch);
 
-/* Where a row lies in a frame of frame_length bytes. Writes SILL_PLACE numbers: offset, length.
-   Numbers: 6 SILL_RECORD_NO, 7 SILL_SHIFT, 8 SILL_PITCH, 11 SILL_FRAME, 15 SILL_ROOM, 19 SILL_NO_ROW. */
+/* Where a row lies in a frame of frame_length bytes. Writes SILL_COUNT_PLACE numbers: offset, length.
+   Numbers: 6 SILL_NO_RECORD, 7 SILL_BAD_SHIFT, 8 SILL_BAD_PITCH, 11 SILL_BAD_FRAME, 15 SILL_NO_ROOM, 19 SILL_NO_ROW. */
 uint32_t sill_row(size_t frame_length, const int32_t *record, size_t record_count, uint32_t x_shift, uint32_t y_shift, size_t pitch,
                   uint32_t level, size_t plane, size_t y, size_t *place, size_t place_count);
 
 /* Builds a plane in the frame from the source, whose rows begin src_pitch bytes apart. What spill and scratch held has no effect;
    after a finished build they are zero throughout. Frame bytes that no rule writes stay.
-   Numbers: 6 SILL_RECORD_NO, 7 SILL_SHIFT, 8 SILL_PITCH, 9 SILL_SOURCE_PITCH, 10 SILL_SOURCE, 11 SILL_FRAME, 12 SILL_SPILL,
-   13 SILL_SCRATCH. */
+   Numbers: 6 SILL_NO_RECORD, 7 SILL_BAD_SHIFT, 8 SILL_BAD_PITCH, 9 SILL_BAD_SOURCE_PITCH, 10 SILL_BAD_SOURCE, 11 SILL_BAD_FRAME, 12 SILL_BAD_SPILL,
+   13 SILL_BAD_SCRATCH. */
 uint32_t sill_build_plane(uint8_t *frame, size_t frame_count, uint8_t *spill, size_t spill_count, uint8_t *scratch, size_t scratch_count,
                           const int32_t *record, size_t record_count, uint32_t x_shift, uint32_t y_shift, size_t pitch,
                           const uint8_t *src, size_t src_count, size_t src_pitch);

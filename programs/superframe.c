@@ -48,25 +48,25 @@ static void unusable(const char *text, ...) {
 
 static const char *sentence(uint32_t number) {
     static const char *const all[] = {
-        [SILL_PEL] = "pel isn't 1, 2 or 4",
-        [SILL_GPU] = "gpu isn't 0, 1 or 2",
-        [SILL_FINEST] = "pel 2 or 4, and not full",
-        [SILL_LEAN] = "lean, and pel above 2, gpu not 1, not full or down not 4",
-        [SILL_SIZE] = "width or height outside 1 to 16,384",
-        [SILL_RECORD_NO] = "a record handed in is no accepted record",
-        [SILL_SHIFT] = "a shift above 1",
-        [SILL_PITCH] = "pitch below max(1, least) or above 32,768; least is level 0's width if full, else level 1's",
-        [SILL_SOURCE_PITCH] = "source pitch below max(1, level 0's width) or above 32,768",
-        [SILL_SOURCE] = "source shorter than (h - 1) * source pitch + w",
-        [SILL_FRAME] = "frame shorter than the written end",
-        [SILL_SPILL] = "spill shorter than its need",
-        [SILL_SCRATCH] = "scratch shorter than 16 * (pitch + 16)",
-        [SILL_LEVELS] = "more than 63 levels",
-        [SILL_ROOM] = "a slice lent for the answer is shorter than the answer",
+        [SILL_BAD_PEL] = "pel isn't 1, 2 or 4",
+        [SILL_BAD_GPU] = "gpu isn't 0, 1 or 2",
+        [SILL_BAD_FULL] = "pel 2 or 4, and not full",
+        [SILL_BAD_LEAN] = "lean, and pel above 2, gpu not 1, not full or down not 4",
+        [SILL_BAD_SIZE] = "width or height outside 1 to 16,384",
+        [SILL_NO_RECORD] = "a record handed in is no accepted record",
+        [SILL_BAD_SHIFT] = "a shift above 1",
+        [SILL_BAD_PITCH] = "pitch below max(1, least) or above 32,768; least is level 0's width if full, else level 1's",
+        [SILL_BAD_SOURCE_PITCH] = "source pitch below max(1, level 0's width) or above 32,768",
+        [SILL_BAD_SOURCE] = "source shorter than (h - 1) * source pitch + w",
+        [SILL_BAD_FRAME] = "frame shorter than the written end",
+        [SILL_BAD_SPILL] = "spill shorter than its need",
+        [SILL_BAD_SCRATCH] = "scratch shorter than 16 * (pitch + 16)",
+        [SILL_BAD_LEVELS] = "more than 63 levels",
+        [SILL_NO_ROOM] = "a slice lent for the answer is shorter than the answer",
         [SILL_NO_ROW] = "no such level, plane or row is stored",
         [SILL_NO_CODE] = "the word is no code",
-        [SILL_DOWN_OPEN] = "halving filter isn't told",
-        [SILL_UP_OPEN] = "upscale filter isn't told",
+        [SILL_NO_DOWN] = "halving filter isn't told",
+        [SILL_NO_UP] = "upscale filter isn't told",
     };
     return number < sizeof all / sizeof *all && all[number] ? all[number] : "a number that isn't known here";
 }
@@ -188,9 +188,9 @@ static uint8_t *samples(const picture *p, const char *name) {
 
 /* The frame: a record, how it is laid out, and its bytes. */
 typedef struct {
-    int32_t record[SILL_RECORD], sizes[SILL_SIZES];
+    int32_t record[SILL_COUNT_RECORD], sizes[SILL_COUNT_SIZES];
     uint32_t x, y;
-    size_t pitch, end, needs[SILL_NEEDS], regions[SILL_REGIONS];
+    size_t pitch, end, needs[SILL_COUNT_NEEDS], regions[SILL_COUNT_REGIONS];
     uint64_t word;
     uint8_t *bytes;
 } frame;
@@ -204,20 +204,21 @@ static int32_t luma(int32_t side, uint64_t shift) {
 static frame laid_out(const options *o, const picture *p) {
     frame f = {.x = (uint32_t)o->x, .y = (uint32_t)o->y};
     const int32_t *s = o->set;
-    done(sill_check(o->given, s[0], s[1], s[2], s[3], s[4], s[5], s[6], luma(p->width, o->x), luma(p->height, o->y), f.record, SILL_RECORD));
-    done(sill_pack_data(f.record, SILL_RECORD, &f.word, SILL_WORD));
-    done(sill_super_sizes(f.record, SILL_RECORD, f.sizes, SILL_SIZES));
+    done(sill_check(o->given, s[0], s[1], s[2], s[3], s[4], s[5], s[6], luma(p->width, o->x), luma(p->height, o->y), f.record, SILL_COUNT_RECORD));
+    done(sill_pack_data(f.record, SILL_COUNT_RECORD, &f.word, SILL_COUNT_WORD));
+    done(sill_super_sizes(f.record, SILL_COUNT_RECORD, f.sizes, SILL_COUNT_SIZES));
     f.pitch = o->pitch_given ? (size_t)o->pitch : ((size_t)p->width + 15) / 16 * 16;
-    done(sill_level_regions(f.record, SILL_RECORD, f.x, f.y, f.pitch, f.regions, SILL_REGIONS));
-    done(sill_written_end(f.record, SILL_RECORD, f.x, f.y, f.pitch, &f.end, SILL_END));
-    done(sill_needs(f.record, SILL_RECORD, f.x, f.y, f.pitch, f.needs, SILL_NEEDS));
+    done(sill_level_regions(f.record, SILL_COUNT_RECORD, f.x, f.y, f.pitch, f.regions, SILL_COUNT_REGIONS));
+    done(sill_written_end(f.record, SILL_COUNT_RECORD, f.x, f.y, f.pitch, &f.end, SILL_COUNT_END));
+    done(sill_needs(f.record, SILL_COUNT_RECORD, f.x, f.y, f.pitch, f.needs, SILL_COUNT_NEEDS));
     return f;
 }
 
 static void build(frame *f, const picture *p, const uint8_t *src) {
-    uint8_t *spill = zeros(f->needs[0]), *scratch = zeros(f->needs[1]);
+    size_t of_spill = f->needs[SILL_NEED_SPILL], of_scratch = f->needs[SILL_NEED_SCRATCH];
+    uint8_t *spill = zeros(of_spill), *scratch = zeros(of_scratch);
     f->bytes = zeros(f->end);
-    done(sill_build_plane(f->bytes, f->end, spill, f->needs[0], scratch, f->needs[1], f->record, SILL_RECORD, f->x, f->y, f->pitch, src, (size_t)p->width * (size_t)p->height, (size_t)p->width));
+    done(sill_build_plane(f->bytes, f->end, spill, of_spill, scratch, of_scratch, f->record, SILL_COUNT_RECORD, f->x, f->y, f->pitch, src, (size_t)p->width * (size_t)p->height, (size_t)p->width));
     free(spill), free(scratch);
 }
 
@@ -231,21 +232,21 @@ static const char *yes_or_no(int32_t flag) { return flag ? "yes" : "no"; }
 static void print_settings(const frame *f) {
     const int32_t *r = f->record;
     static const char *const downs[] = {"average", "average", "bilinear", "quadratic", "cubic"}, *const ups[] = {"bilinear", "bicubic"};
-    int32_t down = r[SILL_AT_DOWN], up = r[SILL_AT_UP], told[SILL_TOLD];
-    int refined = r[SILL_AT_PEL] > 1 && r[SILL_AT_GPU] < 2 && f->regions[0] > 0;
+    int32_t down = r[SILL_AT_DOWN], up = r[SILL_AT_UP], told[SILL_COUNT_TOLD];
+    int refined = r[SILL_AT_PEL] > 1 && r[SILL_AT_GPU] < 2 && f->regions[SILL_REGION_COUNT] > 0;
     printf("settings  pel %d, gpu %d, down %d (%s), up %d (%s), full %s, rc %s, lean %s\n", r[SILL_AT_PEL], r[SILL_AT_GPU],
-           down, f->regions[0] < 2 ? "no part in this build" : down >= 0 && down <= 4 ? downs[down] : "none: later levels stay unwritten",
+           down, f->regions[SILL_REGION_COUNT] < 2 ? "no part in this build" : down >= 0 && down <= 4 ? downs[down] : "none: later levels stay unwritten",
            up, !refined ? "no part in this build" : up >= 0 && up <= 1 ? ups[up] : "Wiener",
            yes_or_no(r[SILL_AT_FULL]), yes_or_no(r[SILL_AT_RC]), yes_or_no(r[SILL_AT_LEAN]));
-    uint32_t open = sill_read_word(f->word, told, SILL_TOLD);
+    uint32_t open = sill_read_word(f->word, told, SILL_COUNT_TOLD);
     printf("read back %" PRIu32 ": %s\n", open, open ? sentence(open) : "the word names this build and no other");
 }
 
 static void print_layout(const frame *f) {
-    printf("super     %dx%d\n", f->sizes[0], f->sizes[1]);
-    printf("pitch     %zu\nframe     %zu bytes; a build is lent %zu of spill and %zu of scratch\n", f->pitch, f->end, f->needs[0], f->needs[1]);
+    printf("super     %dx%d\n", f->sizes[SILL_SIZE_WIDTH], f->sizes[SILL_SIZE_HEIGHT]);
+    printf("pitch     %zu\nframe     %zu bytes; a build is lent %zu of spill and %zu of scratch\n", f->pitch, f->end, f->needs[SILL_NEED_SPILL], f->needs[SILL_NEED_SCRATCH]);
     printf("%5s %7s %11s %7s %7s %11s\n", "level", "planes", "offset", "width", "height", "end");
-    for (size_t k = 0; k < f->regions[0]; k++) {
+    for (size_t k = 0; k < f->regions[SILL_REGION_COUNT]; k++) {
         size_t at = f->regions[SILL_REGION_OFFSET + k], height = f->regions[SILL_REGION_HEIGHT + k];
         printf("%5zu %7zu %11zu %7zu %7zu %11zu\n", k, planes(f, k), at, f->regions[SILL_REGION_WIDTH + k], height, at + planes(f, k) * height * f->pitch);
     }
@@ -277,10 +278,10 @@ typedef struct {
 } sheet;
 
 static void show(const frame *f, sheet *s, size_t level, size_t plane, size_t left, size_t top) {
-    size_t place[SILL_PLACE];
+    size_t place[SILL_COUNT_PLACE];
     for (size_t y = 0; y < f->regions[SILL_REGION_HEIGHT + level]; y++) {
-        done(sill_row(f->end, f->record, SILL_RECORD, f->x, f->y, f->pitch, (uint32_t)level, plane, y, place, SILL_PLACE));
-        memcpy(s->bytes + (top + y) * s->width + left, f->bytes + place[0], place[1]);
+        done(sill_row(f->end, f->record, SILL_COUNT_RECORD, f->x, f->y, f->pitch, (uint32_t)level, plane, y, place, SILL_COUNT_PLACE));
+        memcpy(s->bytes + (top + y) * s->width + left, f->bytes + place[SILL_PLACE_OFFSET], place[SILL_PLACE_LENGTH]);
     }
 }
 
@@ -289,13 +290,13 @@ static void view(const frame *f, const char *name) {
     size_t across = planes(f, 0) ? (size_t)f->record[SILL_AT_PEL] : 0, width = f->regions[SILL_REGION_WIDTH] + GAP, height = f->regions[SILL_REGION_HEIGHT] + GAP;
     sheet s = {.width = GAP + across * width, .height = GAP + across * height};
     size_t below = s.height, smaller = GAP;
-    for (size_t k = 1; k < f->regions[0]; k++) smaller += f->regions[SILL_REGION_WIDTH + k] + GAP;
+    for (size_t k = 1; k < f->regions[SILL_REGION_COUNT]; k++) smaller += f->regions[SILL_REGION_WIDTH + k] + GAP;
     if (smaller > s.width) s.width = smaller;
-    if (f->regions[0] > 1) s.height += f->regions[SILL_REGION_HEIGHT + 1] + GAP;
+    if (f->regions[SILL_REGION_COUNT] > 1) s.height += f->regions[SILL_REGION_HEIGHT + 1] + GAP;
     s.bytes = zeros(s.width * s.height);
     memset(s.bytes, GROUND, s.width * s.height);
     for (size_t k = 0; k < planes(f, 0); k++) show(f, &s, 0, k, GAP + k % across * width, GAP + k / across * height);
-    for (size_t k = 1, left = GAP; k < f->regions[0]; k++) {
+    for (size_t k = 1, left = GAP; k < f->regions[SILL_REGION_COUNT]; k++) {
         show(f, &s, k, 0, left, below);
         left += f->regions[SILL_REGION_WIDTH + k] + GAP;
     }

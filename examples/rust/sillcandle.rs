@@ -109,7 +109,8 @@ impl Plane {
         let (l, r, mut place) = (&self.layout, &self.layout.record.0, [0; 2]);
         // SAFETY: a record of ten, and two numbers lent for the answer.
         done(unsafe { sill::sill_row(self.frame.len(), r.as_ptr(), r.len(), l.shifts.0, l.shifts.1, l.pitch, level, plane, y, place.as_mut_ptr(), place.len()) })?;
-        Ok(&self.frame[place[0]..][..place[1]])
+        let [offset, length] = place;
+        Ok(&self.frame[offset..][..length])
     }
 }
 
