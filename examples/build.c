@@ -13,6 +13,7 @@ static void done(const char *call, uint32_t number) {
     exit(1);
 }
 
+/* Zeros, since what a frame held can reach the levels' bytes. */
 static void *bytes(size_t n) {
     void *p = calloc(n, 1);
     if (!p) exit(2);

@@ -156,7 +156,8 @@ uint32_t sill_row(size_t frame_length, const int32_t *record, size_t record_coun
                   uint32_t level, size_t plane, size_t y, size_t *place, size_t place_count);
 
 /* Builds a plane in the frame from the source, whose rows begin src_pitch bytes apart. What spill and scratch held has no effect;
-   after a finished build they are zero throughout. Frame bytes that no rule writes stay.
+   after a finished build they are zero throughout. Frame bytes that no rule writes stay. What the frame held can reach the levels'
+   bytes, as in the Rust: zero it first where a build has to be repeatable.
    Numbers: 6 SILL_NO_RECORD, 7 SILL_BAD_SHIFT, 8 SILL_BAD_PITCH, 9 SILL_BAD_SOURCE_PITCH, 10 SILL_BAD_SOURCE, 11 SILL_BAD_FRAME, 12 SILL_BAD_SPILL,
    13 SILL_BAD_SCRATCH. */
 uint32_t sill_build_plane(uint8_t *frame, size_t frame_count, uint8_t *spill, size_t spill_count, uint8_t *scratch, size_t scratch_count,
