@@ -1,8 +1,11 @@
 /* Sillcandle's library: settings and their word, and the super frame that they ask for. For C99, C++ and x86-64 Linux.
    Link with target/staticlib/libsillcandle.a, which scripts/library builds.
 
-   Numbers. Each call but sill_prepare_alike returns 0 where it is done, else the number that says why not: document 01's, and 15,
-   which its table leaves free. Where more than one applies the lowest is given, and none other.
+   In order: what holds for every call; numbers, counts and places; the bits of `given`; calls: settings and words, sizes and
+   layouts, frames.
+
+   Numbers. Each call but sill_prepare_alike returns 0 where it is done, else the number that says why not: those of document 01's
+   table and 15, which the table leaves free. Where more than one applies the lowest is given, and none other.
 
    Slices. A slice is a pointer and then a count of elements, and the pointer is aligned for its type, as C's own arrays are.
    Where the count is 0 the pointer isn't looked at and may be NULL: a slice that is missing is a slice of length 0, and gets the
@@ -14,8 +17,17 @@
    Records. A record is SILL_COUNT_RECORD numbers: pel, gpu, down, up, full, rc, lean, levels, width, height. It comes from sill_check.
    Anything else, as another count, a flag neither 0 nor 1 or numbers that sill_check can't give, is refused with SILL_NO_RECORD.
 
-   Layouts. A plane is laid out by a record, two shifts and a pitch: it has (width >> x_shift) by (height >> y_shift) bytes,
-   0 for a plane of the picture's own size and 1 for one of half its width or height; rows of a frame begin pitch bytes apart.
+   Settings. down is how a level is halved: 0 or 1 average, 2 bilinear, 3 quadratic, 4 cubic; any other value leaves the levels after
+   0 unwritten. up is how the planes between level 0's samples are made: 0 bilinear, 1 bicubic, any other value Wiener. Any int32_t
+   is taken for both. With gpu 2 the planes between aren't made, and up counts only with gpu 0.
+
+   Levels. Reducing once makes a side d into 2 * floor(d / 4). Level k has the picture's sides reduced k times; a record's levels
+   are how many, from 0 on, have both sides at least 4. Level 0 is stored as pel * pel planes if full, else not at all; each later
+   level is one plane. Plane y * pel + x of level 0 lies x/pel of a sample to the right and y/pel down; plane 0 is the picture.
+
+   Layouts. A plane of the picture is laid out by a record, two shifts and a pitch: its level k has (width >> x_shift) by
+   (height >> y_shift) bytes, width and height being level k's. A shift is 0 for a plane of the picture's own size and 1 for one of
+   half its width or height. Rows of a frame begin pitch bytes apart.
 
    No call allocates, keeps a pointer, prints, or has a state: calls with slices of their own may run at the same time. */
 #ifndef SILLCANDLE_H
@@ -28,7 +40,7 @@
 extern "C" {
 #endif
 
-/* The numbers of a call: SILL_BAD_ where something handed in doesn't do, SILL_NO_ where something isn't there. */
+/* The numbers of a call. SILL_BAD_ where something handed in doesn't do, SILL_NO_ where something isn't there. */
 enum {
     SILL_DONE = 0,
     SILL_BAD_PEL = 1,          /* pel isn't 1, 2 or 4 */
@@ -102,7 +114,7 @@ enum {
 };
 
 /* Checks settings and a size. A setting whose bit isn't in `given` has its default: pel 2, gpu 1, down 4, up 2, full yes, rc no,
-   lean no; other bits don't count. A flag is yes unless it is 0. If gpu isn't 0, up becomes 0.
+   lean no; other bits don't count. A flag (full, rc, lean) is yes unless it is 0. If gpu isn't 0, up becomes 0.
    Writes a record, SILL_COUNT_RECORD numbers.
    Numbers: 1 SILL_BAD_PEL, 2 SILL_BAD_GPU, 3 SILL_BAD_FULL, 4 SILL_BAD_LEAN, 5 SILL_BAD_SIZE, 15 SILL_NO_ROOM. */
 uint32_t sill_check(uint32_t given, int32_t pel, int32_t gpu, int32_t down, int32_t up, int32_t full, int32_t rc, int32_t lean,
@@ -130,7 +142,8 @@ uint32_t sill_prepare_alike(uint64_t a, uint64_t b);
 uint32_t sill_super_sizes(const int32_t *record, size_t record_count, int32_t *sizes, size_t sizes_count);
 
 /* Where a plane's levels lie. Writes SILL_COUNT_REGIONS numbers: the count of levels, 13 offsets, 13 widths, 13 heights, zeros past the
-   last level. Level 0 keeps pel * pel planes, each of height * pitch bytes, one after another, or none if the record isn't full.
+   last level. Each plane of a level takes height * pitch bytes, one after another from the level's offset; of a record that isn't
+   full, level 0 is listed with its size and nothing of it is stored.
    Numbers: 6 SILL_NO_RECORD, 7 SILL_BAD_SHIFT, 8 SILL_BAD_PITCH, 15 SILL_NO_ROOM. */
 uint32_t sill_level_regions(const int32_t *record, size_t record_count, uint32_t x_shift, uint32_t y_shift, size_t pitch,
                             size_t *regions, size_t regions_count);
@@ -145,7 +158,7 @@ uint32_t sill_written_end(const int32_t *record, size_t record_count, uint32_t x
 uint32_t sill_needs(const int32_t *record, size_t record_count, uint32_t x_shift, uint32_t y_shift, size_t pitch,
                     size_t *needs, size_t needs_count);
 
-/* Zeroes the bytes from a level's width to the pitch, in later levels that a build leaves them in.
+/* Zeroes the bytes from a level's width to the pitch, in levels after 0 that the fused cubic doesn't make.
    Numbers: 6 SILL_NO_RECORD, 7 SILL_BAD_SHIFT, 8 SILL_BAD_PITCH, 11 SILL_BAD_FRAME. */
 uint32_t sill_clear_margins(uint8_t *frame, size_t frame_count, const int32_t *record, size_t record_count,
                             uint32_t x_shift, uint32_t y_shift, size_t pitch);
