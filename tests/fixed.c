@@ -162,6 +162,13 @@ static void rows(void) {
     is(try_row(&l, 14976, UINT32_MAX, far, SIZE_MAX, 2), 19), is(try_row(&l, far, 0, far, 0, 2), 19), is(try_row(&l, far, 0, 0, far + 1, 2), 19), is(try_row(&half, far, 0, 0, 0, 2), 19);
     is(sill_row(14976, l.record, 10, 0, 0, 64, 1, 0, 2, place, 2), 0);
     if (place[0] != 12288 + 2 * 64 || place[1] != 32) failed("fixed case: another row of 64x48");
+    /* Pel 4: 16 planes of 48 rows, then 42 rows of the later levels. */
+    layout quarter = laid(4, 1, 0, 1, 64, 48, 64);
+    size_t end = 16 * 48 * 64 + 42 * 64;
+    is(try_row(&quarter, end - 1, 0, 15, 47, 2), 11), is(try_row(&quarter, end, 0, 15, 47, 2), 0);
+    is(try_row(&quarter, end, 0, 16, 0, 2), 19), is(try_row(&quarter, end, 0, 15, 48, 2), 19);
+    is(sill_row(end, quarter.record, 10, 0, 0, 64, 0, 15, 47, place, 2), 0);
+    if (place[0] != 16 * 48 * 64 - 64 || place[1] != 64) failed("fixed case: another last row of plane 15");
 }
 
 static void frames(void) {

@@ -113,14 +113,30 @@ static void clear(void) {
     try_clear(&l, near(rule_layout(&l) ? below(300) : rule_end(&l)));
 }
 
+/* One of so many, mostly the first, the last or any; also the one after the last, and wild ones. */
+static uint64_t one_of(uint64_t count) {
+    uint64_t last = count ? count - 1 : 0;
+    switch (below(10)) {
+    case 0: return wild();
+    case 1: return last + 1;
+    case 2: case 3: return 0;
+    case 4: case 5: case 6: return last;
+    default: return below(last + 1);
+    }
+}
+
 static void row(void) {
     layout l = some();
-    size_t need = rule_layout(&l) ? below(300) : rule_end(&l), frame = below(3) ? need : below(2) ? need - 1 : wild();
-    uint32_t level = (uint32_t)(below(8) ? below(4) : wild());
-    size_t plane = level ? below(8) == 0 : below(4), y = below(6);
-    if (below(8) == 0) plane = wild();
-    if (below(8) == 0) y = wild();
-    try_row(&l, frame, level, plane, y, room(2));
+    size_t need = below(300), regions[40] = {1}, most = 1, rows = 6;
+    int good = !rule_layout(&l);
+    if (good) rule_regions(&l, regions), need = rule_end(&l);
+    uint32_t level = (uint32_t)one_of(regions[0]);
+    if (good && level < regions[0]) {
+        rows = regions[27 + level];
+        if (level == 0) most = (size_t)(l.record[0] * l.record[0]);
+    }
+    size_t plane = one_of(most), y = one_of(rows), frame = below(3) ? need : below(2) ? need - 1 : wild(), lent = room(2);
+    try_row(&l, frame, level, plane, y, lent);
 }
 
 static void build(void) {
