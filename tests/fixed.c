@@ -171,6 +171,21 @@ static void rows(void) {
     if (place[0] != 16 * 48 * 64 - 64 || place[1] != 64) failed("fixed case: another last row of plane 15");
 }
 
+/* The largest picture: 16 planes of 16,384 rows, then 8192 + 4096 + .. + 4 = 16,380 rows of twelve later levels. */
+static void largest(void) {
+    layout l = laid(4, 1, 0, 1, 16384, 16384, 32768);
+    const size_t later = (size_t)1 << 33, by_hand = later + (size_t)16380 * 32768;
+    size_t regions[40], end, needs[2], place[2];
+    is(try_regions(&l, 40), 0), is(try_end(&l, 1), 0), is(try_needs(&l, 2), 0);
+    is(try_row(&l, SIZE_MAX, 0, 15, 16383, 2), 0), is(try_row(&l, SIZE_MAX, 12, 0, 3, 2), 0), is(try_row(&l, by_hand, 12, 0, 3, 2), 0);
+    is(try_row(&l, by_hand - 1, 0, 0, 0, 2), 11), is(try_row(&l, SIZE_MAX, 12, 0, 4, 2), 19), is(try_row(&l, SIZE_MAX, 13, 0, 0, 2), 19);
+    is(sill_level_regions(l.record, 10, 0, 0, 32768, regions, 40), 0), is(sill_written_end(l.record, 10, 0, 0, 32768, &end, 1), 0);
+    is(sill_needs(l.record, 10, 0, 0, 32768, needs, 2), 0), is(sill_row(SIZE_MAX, l.record, 10, 0, 0, 32768, 12, 0, 3, place, 2), 0);
+    if (regions[0] != 13 || regions[2] != later || regions[13] != by_hand - 4 * 32768 || regions[26] != 4 || regions[39] != 4) failed("fixed case: other levels of 16384x16384");
+    if (end != by_hand || end != 9126674432 || needs[1] != 16 * 32784) failed("fixed case: another layout of 16384x16384");
+    if (place[0] != by_hand - 32768 || place[1] != 4) failed("fixed case: another last row of 16384x16384");
+}
+
 static void frames(void) {
     layout l = laid(2, 1, 0, 1, 64, 48, 64), none = laid(2, 1, 0, 1, 3, 3, 3);
     is(try_clear(&l, 0), 11), is(try_clear(&l, 14975), 11), is(try_clear(&l, 14976), 0), is(try_clear(&l, 15000), 0), is(try_clear(&none, 0), 0);
@@ -240,7 +255,7 @@ static void vast(void) {
 
 void fixed_cases(void) {
     for (where = AT_START; where < PLACES; where++) {
-        checks(), records(), bad_records(), words(), alike(), sizes(), layouts(), rows(), frames(), bytes();
+        checks(), records(), bad_records(), words(), alike(), sizes(), layouts(), rows(), largest(), frames(), bytes();
     }
     where = AMIDST;
     vast();
