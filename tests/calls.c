@@ -164,19 +164,37 @@ uint32_t try_needs(const layout *l, size_t room) {
     return got;
 }
 
+/* Only bytes from a width to the pitch of levels after 0 may have changed, and only to 0. */
+static void only_margins(const layout *l) {
+    size_t regions[40], kept = 0;
+    rule_regions(l, regions);
+    for (size_t level = 1; level < regions[0]; level++) {
+        for (size_t y = 0; y < regions[SILL_REGION_HEIGHT + level]; y++) {
+            size_t row = regions[SILL_REGION_OFFSET + level] + y * l->pitch, margin = row + regions[SILL_REGION_WIDTH + level];
+            lent_same(&frame, kept, margin), lent_cleared(&frame, margin, row + l->pitch);
+            kept = row + l->pitch;
+        }
+    }
+    lent_same(&frame, kept, frame.bytes), lent_guarded(&frame);
+}
+
 uint32_t try_clear(const layout *l, size_t length) {
     tell_layout(CLEAR, l);
     uint32_t no = rule_frame(l, length);
     const int32_t *r = lend_record(l);
     uint8_t *to = lend(&frame, length);
     uint32_t got = numbered(CLEAR, sill_clear_margins(to, length, r, l->count, l->x, l->y, l->pitch), no);
-    if (no) lent_kept(&frame);
-    BESIDE(else {
+    lent_kept(&record);
+    if (no) {
+        lent_kept(&frame);
+        return got;
+    }
+    only_margins(l);
+    BESIDE(
         memcpy(want, frame.before, length);
         rust_clear(want, length, l->record, l->x, l->y, l->pitch);
         lent_is(&frame, want);
-    })
-    lent_kept(&record);
+    )
     return got;
 }
 
@@ -205,7 +223,7 @@ uint32_t try_build(const layout *l, const lengths *n) {
         lent_kept(&frame), lent_kept(&spill), lent_kept(&scratch);
         return got;
     }
-    lent_zero(&spill), lent_zero(&scratch);
+    lent_zero(&spill), lent_zero(&scratch), lent_guarded(&frame);
     BESIDE(
         memcpy(want, frame.before, n->frame);
         rust_build(want, n->frame, l->record, l->x, l->y, l->pitch, src.before, n->src, n->src_pitch);

@@ -113,16 +113,31 @@ static void same(const lent *l, size_t from, const uint8_t *want, size_t bytes, 
     failed("%s: %s: byte %zu is %d, not %d", l->name, what, from + k, l->at[from + k], want[k]);
 }
 
-/* The front is this value; the rest and the guard bytes are as they were. */
-void lent_front(const lent *l, const void *value, size_t bytes) {
+/* The guard bytes are as they were. */
+void lent_guarded(const lent *l) {
     uint8_t *ends[4];
     guards(l, ends);
     for (int k = 0; k < 4; k += 2) for (uint8_t *p = ends[k]; p < ends[k + 1]; p++) {
         if (*p != guard(p)) failed("%s: a byte outside the slice was changed, at %td of %zu", l->name, p - l->at, l->bytes);
     }
+}
+
+/* The bytes from one place to another are as they were. */
+void lent_same(const lent *l, size_t from, size_t to) { same(l, from, l->before + from, to - from, "changed"); }
+
+/* Those bytes are as they were, or 0. */
+void lent_cleared(const lent *l, size_t from, size_t to) {
+    for (size_t k = from; k < to; k++) {
+        if (l->at[k] && l->at[k] != l->before[k]) failed("%s: byte %zu is %d, neither 0 nor %d", l->name, k, l->at[k], l->before[k]);
+    }
+}
+
+/* The front is this value; the rest and the guard bytes are as they were. */
+void lent_front(const lent *l, const void *value, size_t bytes) {
+    lent_guarded(l);
     if (bytes > l->bytes) failed("%s: the answer is longer than its slice", l->name);
     same(l, 0, value, bytes, "another answer");
-    same(l, bytes, l->before + bytes, l->bytes - bytes, "changed");
+    lent_same(l, bytes, l->bytes);
 }
 
 void lent_kept(const lent *l) { lent_front(l, NULL, 0); }
