@@ -182,6 +182,8 @@ static uint8_t *samples(const picture *p, const char *name) {
     uint8_t *src = zeros(want);
     size_t got = fread(src, 1, want, p->f);
     if (got != want) unusable("%s: its header says %zu bytes of samples, and there are %zu", name, want, got);
+    /* A header that was misread, as one with a carriage return or a comment after 255, leaves bytes over. */
+    if (getc(p->f) != EOF) unusable("%s: there are more bytes than its header says", name);
     fclose(p->f);
     return src;
 }
