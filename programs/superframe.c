@@ -11,6 +11,12 @@
 
 enum { REFUSED = 1, UNUSABLE = 2 };
 
+#ifdef __GNUC__
+#define ENDS(text, args) __attribute__((format(printf, text, args), noreturn))
+#else
+#define ENDS(text, args)
+#endif
+
 static const char help[] =
     "superframe PICTURE.pgm [FLAG VALUE]..\n"
     "Builds the super frame of an 8-bit binary PGM picture: the levels that motion search reads, with their sub-pel planes.\n"
@@ -35,7 +41,7 @@ static const char help[] =
     "\n"
     "Exit status: 0 built; 1 refused, with document 01's number; 2 the command line or a file is not usable.\n";
 
-static void unusable(const char *text, ...) {
+ENDS(1, 2) static void unusable(const char *text, ...) {
     va_list args;
     va_start(args, text);
     fflush(stdout);
@@ -71,11 +77,19 @@ static const char *sentence(uint32_t number) {
     return number < sizeof all / sizeof *all && all[number] ? all[number] : "a number that isn't known here";
 }
 
+ENDS(2, 3) static void refused(uint32_t number, const char *given, ...) {
+    va_list args;
+    va_start(args, given);
+    fprintf(stderr, "superframe: refused, %" PRIu32 ": %s", number, sentence(number));
+    vfprintf(stderr, given, args);
+    fputc('\n', stderr);
+    va_end(args);
+    exit(REFUSED);
+}
+
 /* Ends the program where a call refused. */
 static void done(uint32_t number) {
-    if (number == SILL_DONE) return;
-    fprintf(stderr, "superframe: refused, %" PRIu32 ": %s\n", number, sentence(number));
-    exit(REFUSED);
+    if (number != SILL_DONE) refused(number, "%s", "");
 }
 
 static uint8_t *zeros(size_t n) {
@@ -203,14 +217,31 @@ static int32_t luma(int32_t side, uint64_t shift) {
     return n > INT32_MAX ? INT32_MAX : (int32_t)n;
 }
 
+static void done_with_settings(uint32_t number, const int32_t set[7], int32_t width, int32_t height) {
+    switch (number) {
+    case SILL_BAD_PEL: refused(number, "; given: pel %" PRId32, set[SILL_AT_PEL]);
+    case SILL_BAD_GPU: refused(number, "; given: gpu %" PRId32, set[SILL_AT_GPU]);
+    case SILL_BAD_SIZE: refused(number, "; given: %" PRId32 "x%" PRId32, width, height);
+    default: done(number);
+    }
+}
+
+static void done_with_layout(uint32_t number, const frame *f) {
+    switch (number) {
+    case SILL_BAD_SHIFT: refused(number, "; given: shift-x %" PRIu32 ", shift-y %" PRIu32, f->x, f->y);
+    case SILL_BAD_PITCH: refused(number, "; given: pitch %zu", f->pitch);
+    default: done(number);
+    }
+}
+
 static frame laid_out(const options *o, const picture *p) {
     frame f = {.x = (uint32_t)o->x, .y = (uint32_t)o->y};
-    const int32_t *s = o->set;
-    done(sill_check(o->given, s[0], s[1], s[2], s[3], s[4], s[5], s[6], luma(p->width, o->x), luma(p->height, o->y), f.record, SILL_COUNT_RECORD));
+    const int32_t *s = o->set, width = luma(p->width, o->x), height = luma(p->height, o->y);
+    done_with_settings(sill_check(o->given, s[0], s[1], s[2], s[3], s[4], s[5], s[6], width, height, f.record, SILL_COUNT_RECORD), s, width, height);
     done(sill_pack_data(f.record, SILL_COUNT_RECORD, &f.word, SILL_COUNT_WORD));
     done(sill_super_sizes(f.record, SILL_COUNT_RECORD, f.sizes, SILL_COUNT_SIZES));
     f.pitch = o->pitch_given ? (size_t)o->pitch : ((size_t)p->width + 15) / 16 * 16;
-    done(sill_level_regions(f.record, SILL_COUNT_RECORD, f.x, f.y, f.pitch, f.regions, SILL_COUNT_REGIONS));
+    done_with_layout(sill_level_regions(f.record, SILL_COUNT_RECORD, f.x, f.y, f.pitch, f.regions, SILL_COUNT_REGIONS), &f);
     done(sill_written_end(f.record, SILL_COUNT_RECORD, f.x, f.y, f.pitch, &f.end, SILL_COUNT_END));
     done(sill_needs(f.record, SILL_COUNT_RECORD, f.x, f.y, f.pitch, f.needs, SILL_COUNT_NEEDS));
     return f;
