@@ -37,7 +37,7 @@ static const char help[] =
     "Output:\n"
     "  -o OUT.pgm        the built frame; its rows are the pitch\n"
     "  --view SHEET.pgm  a contact sheet: level 0's planes side by side, the smaller levels below\n"
-    "  --help            this text\n"
+    "  --help, -h        this text\n"
     "\n"
     "Exit status: 0 built; 1 refused, with document 01's number; 2 the command line or a file is not usable.\n";
 
@@ -121,34 +121,41 @@ static int32_t answer(const char *flag, const char *text) {
     return 0;
 }
 
-static void one_flag(options *o, const char *flag, const char *value) {
-    static const char *const settings[] = {"--pel", "--gpu", "--down", "--up", "--full", "--rc", "--lean"};
-    for (int k = 0; k < 7; k++) {
-        if (strcmp(flag, settings[k])) continue;
-        o->given |= 1u << k;
-        o->set[k] = k < 4 ? (int32_t)number(flag, value, INT32_MIN, INT32_MAX) : answer(flag, value);
-        return;
+/* The settings' flags come first, in the order of `given` and of a record. */
+enum { PITCH = 7, SHIFT_X, SHIFT_Y, OUT, VIEW, FLAGS };
+static const char *const flags[FLAGS] = {"--pel", "--gpu", "--down", "--up", "--full", "--rc", "--lean", "--pitch", "--shift-x", "--shift-y", "-o", "--view"};
+
+static int flag_of(const char *text) {
+    for (int k = 0; k < FLAGS; k++) if (!strcmp(text, flags[k])) return k;
+    unusable("%s: no such flag; --help lists them", text);
+}
+
+static void one_flag(options *o, int flag, const char *value) {
+    const char *name = flags[flag];
+    switch (flag) {
+    case PITCH: o->pitch = (uint64_t)number(name, value, 0, INT64_MAX), o->pitch_given = 1; break;
+    case SHIFT_X: o->x = (uint64_t)number(name, value, 0, UINT32_MAX); break;
+    case SHIFT_Y: o->y = (uint64_t)number(name, value, 0, UINT32_MAX); break;
+    case OUT: o->out = value; break;
+    case VIEW: o->view = value; break;
+    default:
+        o->given |= 1u << flag;
+        o->set[flag] = flag < SILL_AT_FULL ? (int32_t)number(name, value, INT32_MIN, INT32_MAX) : answer(name, value);
     }
-    if (!strcmp(flag, "--pitch")) o->pitch = (uint64_t)number(flag, value, 0, INT64_MAX), o->pitch_given = 1;
-    else if (!strcmp(flag, "--shift-x")) o->x = (uint64_t)number(flag, value, 0, UINT32_MAX);
-    else if (!strcmp(flag, "--shift-y")) o->y = (uint64_t)number(flag, value, 0, UINT32_MAX);
-    else if (!strcmp(flag, "-o")) o->out = value;
-    else if (!strcmp(flag, "--view")) o->view = value;
-    else unusable("%s: no such flag; --help lists them", flag);
 }
 
 static options command_line(int argc, char **argv) {
     options o = {0};
     for (int k = 1; k < argc; k++) {
-        if (!strcmp(argv[k], "--help")) fputs(help, stdout), exit(0);
+        if (!strcmp(argv[k], "--help") || !strcmp(argv[k], "-h")) fputs(help, stdout), exit(0);
         if (argv[k][0] != '-') {
             if (o.in) unusable("%s: one picture is taken, and %s is it", argv[k], o.in);
             o.in = argv[k];
             continue;
         }
-        if (k + 1 == argc) unusable("%s: its value is missing; --help lists the flags", argv[k]);
-        one_flag(&o, argv[k], argv[k + 1]);
-        k++;
+        int flag = flag_of(argv[k]);
+        if (++k == argc) unusable("%s: its value is missing; --help lists the flags", flags[flag]);
+        one_flag(&o, flag, argv[k]);
     }
     if (!o.in) unusable("which picture? usage: superframe PICTURE.pgm [FLAG VALUE]..; --help says more");
     return o;
