@@ -273,10 +273,10 @@ static void print_settings(const frame *f) {
     const int32_t *r = f->record;
     static const char *const downs[] = {"average", "average", "bilinear", "quadratic", "cubic"}, *const ups[] = {"bilinear", "bicubic"};
     int32_t down = r[SILL_AT_DOWN], up = r[SILL_AT_UP], told[SILL_COUNT_TOLD];
-    int refined = r[SILL_AT_PEL] > 1 && r[SILL_AT_GPU] < 2 && f->regions[SILL_REGION_COUNT] > 0;
+    int between = r[SILL_AT_PEL] > 1 && f->regions[SILL_REGION_COUNT] > 0;
     printf("settings  pel %d, gpu %d, down %d (%s), up %d (%s), full %s, rc %s, lean %s\n", r[SILL_AT_PEL], r[SILL_AT_GPU],
            down, f->regions[SILL_REGION_COUNT] < 2 ? "no part in this build" : down >= 0 && down <= 4 ? downs[down] : "none: later levels stay unwritten",
-           up, !refined ? "no part in this build" : up >= 0 && up <= 1 ? ups[up] : "Wiener",
+           up, !between ? "no part in this build" : r[SILL_AT_GPU] > 1 ? "none: planes after 0 stay unwritten" : up >= 0 && up <= 1 ? ups[up] : "Wiener",
            yes_or_no(r[SILL_AT_FULL]), yes_or_no(r[SILL_AT_RC]), yes_or_no(r[SILL_AT_LEAN]));
     uint32_t open = sill_read_word(f->word, told, SILL_COUNT_TOLD);
     printf("read back %" PRIu32 ": %s\n", open, open ? sentence(open) : "the word names this build and no other");
