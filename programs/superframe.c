@@ -34,6 +34,7 @@ static const char help[] =
     "  --pitch N      bytes from row to row (default: a row, raised to a multiple of 16)\n"
     "  --shift-x N    1: PICTURE is a plane of half the width of its picture, as chroma is (default 0)\n"
     "  --shift-y N    1: the same for the height (default 0)\n"
+    "                 With a shift, the picture is taken to have twice PICTURE's width or height.\n"
     "Output:\n"
     "  -o OUT.pgm        the built frame; its rows are the pitch\n"
     "  --view SHEET.pgm  a contact sheet: level 0's planes side by side, the smaller levels below\n"
@@ -98,6 +99,12 @@ static uint8_t *zeros(size_t n) {
     return p;
 }
 
+/* Ends the program as done, if all that it printed went out. */
+static void finish(void) {
+    if (fflush(stdout) || ferror(stdout)) unusable("what is printed couldn't be written whole");
+    exit(0);
+}
+
 /* The command line. */
 typedef struct {
     uint32_t given;
@@ -111,7 +118,9 @@ static int64_t number(const char *flag, const char *text, int64_t least, int64_t
     char *end;
     errno = 0;
     long long n = strtoll(text, &end, 10);
-    if (end == text || *end || errno || n < least || n > most) unusable("%s %s: a whole number from %" PRId64 " to %" PRId64 " is wanted", flag, text, least, most);
+    /* strtoll takes white space and a plus before a number. */
+    char first = text[*text == '-'];
+    if (first < '0' || first > '9' || *end || errno || n < least || n > most) unusable("%s %s: a whole number from %" PRId64 " to %" PRId64 " is wanted", flag, text, least, most);
     return n;
 }
 
@@ -147,7 +156,7 @@ static void one_flag(options *o, int flag, const char *value) {
 static options command_line(int argc, char **argv) {
     options o = {0};
     for (int k = 1; k < argc; k++) {
-        if (!strcmp(argv[k], "--help") || !strcmp(argv[k], "-h")) fputs(help, stdout), exit(0);
+        if (!strcmp(argv[k], "--help") || !strcmp(argv[k], "-h")) fputs(help, stdout), finish();
         if (argv[k][0] != '-') {
             if (o.in) unusable("%s: one picture is taken, and %s is it", argv[k], o.in);
             o.in = argv[k];
@@ -158,20 +167,25 @@ static options command_line(int argc, char **argv) {
         one_flag(&o, flag, argv[k]);
     }
     if (!o.in) unusable("which picture? usage: superframe PICTURE.pgm [FLAG VALUE]..; --help says more");
+    if (o.out && o.view && !strcmp(o.out, o.view)) unusable("%s: -o and --view would write the same file", o.out);
     return o;
+}
+
+/* A byte of a PGM's header; a comment is the end of its line, wherever it begins. */
+static int header_byte(FILE *f) {
+    int c = getc(f);
+    if (c == '#') while (c != '\n' && c != '\r' && c != EOF) c = getc(f);
+    return c;
 }
 
 static int white(int c) { return c == ' ' || (c >= '\t' && c <= '\r'); }
 
-/* A number of a PGM's header, after white space and comments. */
+/* A number of a PGM's header, after white space. */
 static int32_t header_number(FILE *f, const char *name, const char *what) {
-    int c = getc(f), digits = 0;
-    while (white(c) || c == '#') {
-        if (c == '#') while (c != '\n' && c != EOF) c = getc(f);
-        c = getc(f);
-    }
+    int c = header_byte(f), digits = 0;
+    while (white(c)) c = header_byte(f);
     int64_t n = 0;
-    for (; c >= '0' && c <= '9'; c = getc(f), digits++) {
+    for (; c >= '0' && c <= '9'; c = header_byte(f), digits++) {
         n = 10 * n + c - '0';
         if (n > INT32_MAX) unusable("%s: its header has a %s of more than %d", name, what, INT32_MAX);
     }
@@ -189,8 +203,8 @@ typedef struct {
 static picture opened(const char *name) {
     picture p = {.f = fopen(name, "rb")};
     if (!p.f) unusable("%s: %s", name, strerror(errno));
-    int a = getc(p.f), b = getc(p.f);
-    if (a != 'P' || b != '5') unusable("%s: no binary PGM, which begins with P5", name);
+    int a = getc(p.f), b = getc(p.f), after = header_byte(p.f);
+    if (a != 'P' || b != '5' || !white(after)) unusable("%s: no binary PGM, which begins with P5 and white space", name);
     p.width = header_number(p.f, name, "width");
     p.height = header_number(p.f, name, "height");
     int32_t largest = header_number(p.f, name, "largest sample");
@@ -355,5 +369,5 @@ int main(int argc, char **argv) {
     if (f.end && o.out) write_pgm(o.out, f.pitch, f.end / f.pitch, f.bytes);
     if (f.end && o.view) view(&f, o.view);
     free(src), free(f.bytes);
-    return 0;
+    finish();
 }
