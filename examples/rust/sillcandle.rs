@@ -1,5 +1,5 @@
-//! The library from Rust: a safe wrapper, `Record` and `Plane`, and a small program over it. scripts/library compiles and runs it:
-//!     rustc --edition 2024 sillcandle.rs -L target/staticlib -l static=sillcandle
+//! The library from Rust: a safe wrapper, `Record` and `Plane`, and a small program over it. scripts/library compiles and runs it; by hand, on x86-64:
+//!     rustc --edition 2024 examples/rust/sillcandle.rs -L target/staticlib
 //! The wrapper holds what the header asks of a caller: counts are the slices' own, and slices that the compiler lends can't overlap.
 
 mod sill {
