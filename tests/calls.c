@@ -61,7 +61,13 @@ static uint32_t lowest(uint32_t no, size_t room, size_t need) { return room < ne
 
 static void tell_layout(int call, const layout *l) {
     const int32_t *r = l->record;
-    tell("%s(record %d %d %d %d %d %d %d %d %d %d count %zu, shifts %u %u, pitch %zu)", names[call], r[0], r[1], r[2], r[3], r[4], r[5], r[6], r[7], r[8], r[9], l->count, l->x, l->y, l->pitch);
+    tell("%s: record %d %d %d %d %d %d %d %d %d %d count %zu, shifts %u %u, pitch %zu", names[call], r[0], r[1], r[2], r[3], r[4], r[5], r[6], r[7], r[8], r[9], l->count, l->x, l->y, l->pitch);
+}
+
+/* A call on a layout with an answer, which is lent so many elements. */
+static void tell_room(int call, const layout *l, size_t room) {
+    tell_layout(call, l);
+    tell_more(", room %zu", room);
 }
 
 static const int32_t *lend_record(const layout *l) { return lend_copy(&record, l->record, l->count * sizeof *l->record); }
@@ -90,7 +96,7 @@ uint32_t try_accepted(const layout *l) {
 }
 
 uint32_t try_pack(const layout *l, size_t room) {
-    tell_layout(PACK, l);
+    tell_room(PACK, l, room);
     uint32_t no = rule_record(l->record, l->count);
     uint64_t word = no ? 0 : rule_word(l->record);
     BESIDE(if (!no && rust_word(l->record) != word) failed("the rules' word isn't the Rust's");)
@@ -116,7 +122,7 @@ uint32_t try_alike(uint64_t a, uint64_t b) {
 
 uint32_t try_sizes(const layout *l, size_t room) {
     int32_t sizes[2];
-    tell_layout(SIZES, l);
+    tell_room(SIZES, l, room);
     uint32_t no = rule_record(l->record, l->count);
     if (!no) rule_sizes(l->record, sizes);
     BESIDE(if (!no) { int32_t theirs[2]; rust_sizes(l->record, theirs); differs(sizes, theirs, sizeof sizes, "sizes"); })
@@ -129,7 +135,7 @@ uint32_t try_sizes(const layout *l, size_t room) {
 
 uint32_t try_regions(const layout *l, size_t room) {
     size_t regions[40];
-    tell_layout(REGIONS, l);
+    tell_room(REGIONS, l, room);
     uint32_t no = rule_layout(l);
     if (!no) rule_regions(l, regions);
     BESIDE(if (!no) { size_t theirs[40]; rust_regions(l->record, l->x, l->y, l->pitch, theirs); differs(regions, theirs, sizeof regions, "regions"); })
@@ -141,7 +147,7 @@ uint32_t try_regions(const layout *l, size_t room) {
 }
 
 uint32_t try_end(const layout *l, size_t room) {
-    tell_layout(END, l);
+    tell_room(END, l, room);
     uint32_t no = rule_layout(l);
     size_t end = no ? 0 : rule_end(l);
     BESIDE(if (!no && rust_end(l->record, l->x, l->y, l->pitch) != end) failed("the rules' end isn't the Rust's");)
@@ -154,7 +160,7 @@ uint32_t try_end(const layout *l, size_t room) {
 
 uint32_t try_needs(const layout *l, size_t room) {
     size_t needs[2];
-    tell_layout(NEEDS, l);
+    tell_room(NEEDS, l, room);
     uint32_t no = rule_layout(l);
     if (!no) rule_needs(l, needs);
     const int32_t *r = lend_record(l);
@@ -180,6 +186,7 @@ static void only_margins(const layout *l) {
 
 uint32_t try_clear(const layout *l, size_t length) {
     tell_layout(CLEAR, l);
+    tell_more(", frame %zu", length);
     uint32_t no = rule_frame(l, length);
     const int32_t *r = lend_record(l);
     uint8_t *to = lend(&frame, length);
@@ -200,7 +207,8 @@ uint32_t try_clear(const layout *l, size_t length) {
 
 uint32_t try_row(const layout *l, size_t length, uint32_t level, size_t plane, size_t y, size_t room) {
     size_t place[2];
-    tell_layout(ROW, l);
+    tell_room(ROW, l, room);
+    tell_more(", frame %zu, level %u, plane %zu, y %zu", length, level, plane, y);
     uint32_t no = rule_row(l, length, level, plane, y, place);
     const int32_t *r = lend_record(l);
     size_t *to = lend(&answer, room * sizeof *to);
@@ -210,8 +218,8 @@ uint32_t try_row(const layout *l, size_t length, uint32_t level, size_t plane, s
 }
 
 uint32_t try_build(const layout *l, const lengths *n) {
-    const int32_t *t = l->record;
-    tell("sill_build_plane(record %d %d %d %d %d %d %d %d %d %d count %zu, shifts %u %u, pitch %zu; frame %zu, spill %zu, scratch %zu, source %zu of pitch %zu)", t[0], t[1], t[2], t[3], t[4], t[5], t[6], t[7], t[8], t[9], l->count, l->x, l->y, l->pitch, n->frame, n->spill, n->scratch, n->src, n->src_pitch);
+    tell_layout(BUILD, l);
+    tell_more(", frame %zu, spill %zu, scratch %zu, source %zu of pitch %zu", n->frame, n->spill, n->scratch, n->src, n->src_pitch);
     uint32_t no = rule_build(l, n);
     const int32_t *r = lend_record(l);
     uint8_t *f = lend(&frame, n->frame), *sp = lend(&spill, n->spill), *sc = lend(&scratch, n->scratch);

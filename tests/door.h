@@ -41,13 +41,13 @@ uint64_t below(uint64_t n);
 void seed(uint64_t s);
 
 enum { MOST = 1 << 20 };
-typedef enum { AT_START, AMIDST, AT_END, PLACES } place;
+typedef enum { AT_START, AMIDST, AT_END, SPOTS } spot;
 typedef struct {
     const char *name;
     uint8_t *room, *at, *before;
     size_t bytes;
 } lent;
-extern place where;
+extern spot where;
 void lent_open(lent *l, const char *name);
 void *lend(lent *l, size_t bytes);
 void *lend_copy(lent *l, const void *of, size_t bytes);
@@ -58,8 +58,9 @@ void lent_kept(const lent *l);
 void lent_front(const lent *l, const void *value, size_t bytes);
 void lent_is(const lent *l, const void *value);
 void lent_zero(const lent *l);
-void failed(const char *what, ...);
-void tell(const char *what, ...);
+void failed(const char *what, ...) __attribute__((format(printf, 1, 2), noreturn));
+void tell(const char *what, ...) __attribute__((format(printf, 1, 2)));
+void tell_more(const char *what, ...) __attribute__((format(printf, 1, 2)));
 void watch(void);
 
 /* calls.c: one call each, held to the rules and the Rust. The number that the call gave, or of two words whether they are alike. */

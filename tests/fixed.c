@@ -1,4 +1,5 @@
-/* Cases whose numbers and answers are told here by hand, good and bad ones of each call; most values are document 01's own. */
+/* Cases whose numbers and answers are told here by hand, good and bad ones of each call; most values are document 01's own.
+   In order: settings and records; words; sizes and layouts; rows; frames and bytes; vast slices; all of them. */
 #include <stdio.h>
 #include <string.h>
 #include <sys/mman.h>
@@ -278,7 +279,7 @@ static void vast(void) {
 }
 
 void fixed_cases(void) {
-    for (where = AT_START; where < PLACES; where++) {
+    for (where = AT_START; where < SPOTS; where++) {
         checks(), records(), bad_records(), words(), alike(), sizes(), layouts(), rows(), largest(), frames(), bytes();
     }
     where = AMIDST;

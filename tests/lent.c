@@ -1,5 +1,6 @@
 /* Slices as a caller could lend them: each in a room of its own between two unmapped pages, with guard bytes around it.
-   A byte read or written past a slice that touches an unmapped page ends the test; a byte written beside another one is seen afterwards. */
+   A byte read or written past a slice that touches an unmapped page ends the test; a byte written beside another one is seen afterwards.
+   In order: random numbers; messages and signals; rooms and their fences; lending; what a slice is held to afterwards. */
 #include <signal.h>
 #include <stdarg.h>
 #include <stdio.h>
@@ -12,7 +13,7 @@
 
 enum { GUARD = 64, ROOM = MOST + 4096, PAGE = 4096 };
 
-place where;
+spot where;
 static uint64_t state;
 static char told[1024];
 
@@ -36,6 +37,14 @@ void tell(const char *what, ...) {
     va_end(args);
 }
 
+void tell_more(const char *what, ...) {
+    va_list args;
+    va_start(args, what);
+    size_t length = strlen(told);
+    vsnprintf(told + length, sizeof told - length, what, args);
+    va_end(args);
+}
+
 void failed(const char *what, ...) {
     va_list args;
     va_start(args, what);
@@ -46,14 +55,14 @@ void failed(const char *what, ...) {
     exit(1);
 }
 
-static void outside(int signal) {
-    (void)signal;
-    failed("a byte outside every slice was touched");
+static void ended(int number) {
+    if (number == SIGSEGV || number == SIGBUS) failed("a byte outside every slice was touched");
+    failed("it ended in signal %d; the Rust ends so where it panics", number);
 }
 
 void watch(void) {
-    signal(SIGSEGV, outside);
-    signal(SIGBUS, outside);
+    static const int all[] = {SIGSEGV, SIGBUS, SIGABRT, SIGFPE, SIGILL};
+    for (size_t k = 0; k < sizeof all / sizeof *all; k++) signal(all[k], ended);
 }
 
 void lent_open(lent *l, const char *name) {

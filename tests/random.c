@@ -179,7 +179,7 @@ static void build(void) {
 
 static void one(int call) {
     layout l = some();
-    where = (place)below(PLACES);
+    where = (spot)below(SPOTS);
     switch (call) {
     case CHECK: check(); break;
     case ACCEPTED: try_accepted(&l); break;
