@@ -7,11 +7,13 @@
 #include <stdlib.h>
 #include <string.h>
 #include <sys/mman.h>
+#include <sys/wait.h>
 #include <unistd.h>
 
 #include "door.h"
 
-enum { GUARD = 64, ROOM = MOST + 4096, PAGE = 4096 };
+enum { GUARD = 64, FENCED = 3 };
+static size_t page, room_size;
 
 spot where;
 static uint64_t state;
@@ -65,19 +67,40 @@ void watch(void) {
     for (size_t k = 0; k < sizeof all / sizeof *all; k++) signal(all[k], ended);
 }
 
+static void fenced(int number) {
+    (void)number;
+    _exit(FENCED);
+}
+
+/* A fence that let a byte be read would find nothing: a child that reads one has to fault. */
+static void fence(const lent *l, const volatile uint8_t *byte, const char *which) {
+    int status = 0;
+    pid_t child = fork();
+    if (child == 0) {
+        signal(SIGSEGV, fenced), signal(SIGBUS, fenced);
+        (void)*byte;
+        _exit(0);
+    }
+    if (child < 0 || waitpid(child, &status, 0) != child) failed("no child to try the fences");
+    if (!WIFEXITED(status) || WEXITSTATUS(status) != FENCED) failed("%s: a byte %s its room can be read", l->name, which);
+}
+
 void lent_open(lent *l, const char *name) {
+    page = (size_t)sysconf(_SC_PAGESIZE), room_size = MOST + page;
     l->name = name;
-    l->room = mmap(NULL, ROOM + 2 * PAGE, PROT_NONE, MAP_PRIVATE | MAP_ANONYMOUS, -1, 0);
+    tell("the room of %s", name);
+    l->room = mmap(NULL, room_size + 2 * page, PROT_NONE, MAP_PRIVATE | MAP_ANONYMOUS, -1, 0);
     l->before = malloc(MOST);
-    if (l->room == MAP_FAILED || !l->before || mprotect(l->room + PAGE, ROOM, PROT_READ | PROT_WRITE)) failed("no memory for %s", name);
-    l->room += PAGE;
+    if (l->room == MAP_FAILED || !l->before || mprotect(l->room + page, room_size, PROT_READ | PROT_WRITE)) failed("no memory for %s", name);
+    l->room += page;
+    fence(l, l->room - 1, "before"), fence(l, l->room + room_size, "after");
 }
 
 static uint8_t guard(const uint8_t *at) { return (uint8_t)(0xa5 ^ (uintptr_t)at * 7); }
 
 /* The guard bytes before and after a slice, as far as they lie in its room. */
 static void guards(const lent *l, uint8_t *ends[4]) {
-    uint8_t *end = l->at + l->bytes, *last = l->room + ROOM;
+    uint8_t *end = l->at + l->bytes, *last = l->room + room_size;
     ends[0] = l->at - l->room > GUARD ? l->at - GUARD : l->room;
     ends[1] = l->at;
     ends[2] = end;
@@ -87,13 +110,13 @@ static void guards(const lent *l, uint8_t *ends[4]) {
 static void *laid(lent *l, size_t bytes) {
     if (bytes > MOST) failed("%s: %zu bytes are more than the test has room for", l->name, bytes);
     l->bytes = bytes;
-    l->at = where == AT_START ? l->room : where == AT_END ? l->room + ROOM - bytes : l->room + 2 * GUARD;
+    l->at = where == AT_START ? l->room : where == AT_END ? l->room + room_size - bytes : l->room + 2 * GUARD;
     uint8_t *ends[4];
     guards(l, ends);
     for (int k = 0; k < 4; k += 2) for (uint8_t *p = ends[k]; p < ends[k + 1]; p++) *p = guard(p);
     if (bytes) return l->at;
     /* A slice of no elements: its pointer isn't looked at. */
-    void *none[] = {NULL, l->room - PAGE, l->room + ROOM, (void *)1};
+    void *none[] = {NULL, l->room - page, l->room + room_size, (void *)1};
     return none[below(4)];
 }
 
