@@ -8,9 +8,9 @@
 #include "door.h"
 
 #ifdef RUST
-#define HELD "numbers, answers and bytes are those of the rules and the Rust"
+#define HELD "numbers and answers are those of the rules and, where it has them, the Rust; bytes are the Rust's"
 #else
-#define HELD "numbers and answers are those of the rules, built bytes weren't compared"
+#define HELD "numbers and answers are those of the rules; built bytes weren't compared"
 #endif
 
 int main(int argc, char **argv) {
@@ -23,6 +23,6 @@ int main(int argc, char **argv) {
     calls_open();
     fixed_cases();
     random_calls(count);
-    printf("door: %" PRIu64 " random calls, seed %" PRIu64 ": " HELD "; no byte outside a slice was changed, or read where an unmapped page is beside it\n", count, from);
+    printf("door: %" PRIu64 " random calls, seed %" PRIu64 ": " HELD "; no guard byte was changed, no unmapped page touched\n", count, from);
     return 0;
 }

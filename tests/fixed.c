@@ -236,15 +236,15 @@ static void vast_answers(const layout *l, uint8_t *to, size_t count) {
     rule_sizes(l->record, sizes), rule_regions(l, regions), rule_needs(l, needs), rule_read(word, told), rule_row(l, end, 1, 0, 2, place);
     const int32_t *r = l->record;
     int32_t *numbers = (int32_t *)to;
-    size_t *lengths = (size_t *)to, p = l->pitch;
+    size_t *places = (size_t *)to, p = l->pitch;
     is(sill_check(0, 0, 0, 0, 0, 0, 0, 0, 64, 48, numbers, count), 0), front_is(to, r, 10 * sizeof *r, "record");
     is(sill_pack_data(r, 10, (uint64_t *)to, count), 0), front_is(to, &word, sizeof word, "word");
     is(sill_read_word(word, numbers, count), 0), front_is(to, told, sizeof told, "description");
     is(sill_super_sizes(r, 10, numbers, count), 0), front_is(to, sizes, sizeof sizes, "super size");
-    is(sill_level_regions(r, 10, 0, 0, p, lengths, count), 0), front_is(to, regions, sizeof regions, "layout");
-    is(sill_written_end(r, 10, 0, 0, p, lengths, count), 0), front_is(to, &end, sizeof end, "end");
-    is(sill_needs(r, 10, 0, 0, p, lengths, count), 0), front_is(to, needs, sizeof needs, "need");
-    is(sill_row(end, r, 10, 0, 0, p, 1, 0, 2, lengths, count), 0), front_is(to, place, sizeof place, "row");
+    is(sill_level_regions(r, 10, 0, 0, p, places, count), 0), front_is(to, regions, sizeof regions, "layout");
+    is(sill_written_end(r, 10, 0, 0, p, places, count), 0), front_is(to, &end, sizeof end, "end");
+    is(sill_needs(r, 10, 0, 0, p, places, count), 0), front_is(to, needs, sizeof needs, "need");
+    is(sill_row(end, r, 10, 0, 0, p, 1, 0, 2, places, count), 0), front_is(to, place, sizeof place, "row");
 }
 
 /* Counts whose low 32 bits alone would be another length. What is refused lies in memory that can't be written. */

@@ -155,8 +155,8 @@ static void row(void) {
         rows = regions[27 + level];
         if (level == 0) most = (size_t)(l.record[0] * l.record[0]);
     }
-    size_t plane = one_of(most), y = one_of(rows), frame = below(3) ? need : below(2) ? need - 1 : wild(), lent = room(2);
-    try_row(&l, frame, level, plane, y, lent);
+    size_t plane = one_of(most), y = one_of(rows), frame = below(3) ? need : below(2) ? need - 1 : wild(), held = room(2);
+    try_row(&l, frame, level, plane, y, held);
 }
 
 static void build(void) {
