@@ -1,4 +1,4 @@
--- Settings that don't matter leave no trace: records alike but for them build alike, so that a word that reading takes for one build names one. Assumes nothing.
+-- Settings that don't matter leave no trace: records alike but for them build alike, so that a word that reading takes for one build names one. Last, that the filters which reading counts are those that a build takes. Assumes nothing.
 use mathlib.Core.Path.{_≡_, refl, sym, ap, _∙_}
 use mathlib.Core.Logic.{_⊎_, inl, inr, ⊎-elim}
 use mathlib.Core.Bool.{Bool, true, false, cond, not, _&&_, _||_}
@@ -6,18 +6,22 @@ use mathlib.Core.List.{List}
 use Prim.Native.Nat.{ℕ, zero, suc, _+_, _-_, _≤_}
 use native.Mathlib.Omega.{arith}
 use lib.Dec.{eqb, leb}
-use lib.IntN.{ℤ, pos}
+use lib.IntN.{ℤ, pos, negsuc}
 use lib.ListN.{length, take}
-use borrow.Author.Tests.{leb-false, not-false}
+use borrow.Author.Tests.{lt-leb, leb-false, ne-eqb, not-false}
 use Rattle.settings.specs.declared.super_opts.SuperOpts.{SuperOpts}
 use Rattle.settings.specs.Numbers.{isNat, isI32, total}
 use Rattle.settings.specs.Check.{accepted, pelOf, levelCount}
-use Rattle.settings.specs.Reading.{candidate, readNo, downMatters, upMatters, Packs}
+use Rattle.settings.specs.Reading.{candidate, readNo, downMatters, upMatters, Packs, halvingOf, upscaleOf}
 use Rattle.settings.proofs.Accepted.{fine, is-nat-pos}
 use Rattle.settings.proofs.Told.{filtered, filtered-packs, four-or-not, canon-accepted, canon-four, packs-canon, code-packs, read-case, at-0, halving as halvingOpen, upscale as upscaleOpen, or-right}
 use Rattle.filters.specs.declared.halving.ReduceFilter.{ReduceFilter}
+use Rattle.filters.specs.declared.halving.ReduceFilter.the-variants.{Average, Bilinear, Quadratic, Cubic}
 use Rattle.filters.specs.declared.halving.Chosen.{Chosen}
 use Rattle.filters.specs.declared.halving.Chosen.the-variants.{Filter, NoFilter}
+use Rattle.filters.specs.declared.half_pel.HalfPel.the-variants.{CatmullRom, Wiener}
+use Rattle.filters.specs.declared.half_pel.Upscale.{Upscale}
+use Rattle.filters.specs.declared.half_pel.Upscale.the-variants.{Means, Kernel}
 use Rattle.filters.specs.Halve.{chosen}
 use Rattle.filters.specs.Refine.{upscale}
 use Rattle.filters.proofs.Tests.{or-yes}
@@ -162,3 +166,37 @@ same-build v e r s p q g m bs bf h = (builds-both v r s p q g (h .0), h .1 ∙ s
 -- "names one build exactly if ..", one way
 pub one-there : (v : ℕ) → readNo v ≡ 0 → ((r : SuperOpts) × Packs v r) × ((r s : SuperOpts) → Packs v r → Packs v s → SameBuild Leaves r s)
 one-there v e = ((candidate v, code-packs v (at-0 (read-case v) e .0)), same-build v e)
+
+-- ---- the filters that reading counts (`halvingOf`, `upscaleOf`) are those that a build takes
+abbrev halvingBy : ℕ → Chosen
+halvingBy n = cond (eqb n 1) (Filter Average) (cond (eqb n 2) (Filter Bilinear) (cond (eqb n 3) (Filter Quadratic) (cond (eqb n 4) (Filter Cubic) NoFilter)))
+
+few : (d : ℕ) → leb d 1 ≡ (eqb d 0 || eqb d 1)
+few zero = refl
+few (suc zero) = refl
+few (suc (suc d)) = rw (lt-leb (suc (suc d)) 1 (omega arith), ne-eqb (suc (suc d)) 0 (λ e. omega arith), ne-eqb (suc (suc d)) 1 (λ e. omega arith))
+
+halving-go : (a b c d : Bool) → cond a (Filter Average) (cond b (Filter Bilinear) (cond c (Filter Quadratic) (cond d (Filter Cubic) NoFilter))) ≡ halvingBy (cond a 1 (cond b 2 (cond c 3 (cond d 4 0))))
+halving-go true b c d = refl
+halving-go false true c d = refl
+halving-go false false true d = refl
+halving-go false false false true = refl
+halving-go false false false false = refl
+
+pub halving-named : (z : ℤ) → chosen z ≡ halvingBy (halvingOf z)
+unfolding chosen
+halving-named (pos d) = rw (few d) (halving-go (eqb d 0 || eqb d 1) (eqb d 2) (eqb d 3) (eqb d 4))
+halving-named (negsuc d) = refl
+
+abbrev upscaleBy : ℕ → Upscale
+upscaleBy n = cond (eqb n 0) Means (cond (eqb n 1) (Kernel CatmullRom) (Kernel Wiener))
+
+upscale-go : (a b : Bool) → cond a Means (cond b (Kernel CatmullRom) (Kernel Wiener)) ≡ upscaleBy (cond a 0 (cond b 1 2))
+upscale-go true b = refl
+upscale-go false true = refl
+upscale-go false false = refl
+
+pub upscale-named : (z : ℤ) → upscale z ≡ upscaleBy (upscaleOf z)
+unfolding upscale
+upscale-named (pos d) = upscale-go (eqb d 0) (eqb d 1)
+upscale-named (negsuc d) = refl
