@@ -51,14 +51,15 @@ zero-row-requires c κs = tt
 zero-row-requires-2 : tie.Need-zero-row-requires-2
 zero-row-requires-2 c κs = tt
 
+-- The lengths are searched for, though each has a term of its own: so a build that zeroes another slice is refused at the bytes that it leaves, not here.
 same-length : tie.Need-same-length
-same-length c = c .before .before .before .before .before .before .before .before .before .before .before .before .before .before .build-spilled .kept .0
+same-length c = search needs
 
 same-length-2 : tie.Need-same-length-2
-same-length-2 c = c .before .before .before .before .before .before .zero-row .kept .0 ∙ c .before .before .before .before .before .before .before .before .before .before .before .before .before .before .build-spilled .kept .1 .0
+same-length-2 c = search needs
 
 same-length-3 : tie.Need-same-length-3
-same-length-3 c = c .before .before .zero-row2 .kept .0 ∙ c .before .before .before .before .before .before .before .before .before .before .before .before .before .before .build-spilled .kept .1 .1 .0
+same-length-3 c = search needs
 
 returns-2 : tie.Need-returns-2
 returns-2 c =
