@@ -30,7 +30,8 @@ use Rattle.builder.specs.Layout.{widthAt, heightAt, offsetAt, writtenEnd
 use Rattle.builder.specs.Numbers.{badPitch, leastPitch, layoutNo, sourceNeed, lentNo, buildNo}
 use Rattle.builder.specs.Refining.{planeAt}
 use Rattle.builder.specs.Build.{planesOf}
-use Rattle.builder.specs.Demands.{bytes, SameBuild, Differ, withDown, withUp, HalvingDiffers, UpscaleDiffers, Exact, Builds, leaves, Leaves}
+use Rattle.settings.specs.LittleEndian.{bytes}
+use Rattle.builder.specs.Demands.{SameBuild, Differ, withDown, withUp, HalvingDiffers, UpscaleDiffers, Exact, Builds, leaves, Leaves}
 use Rattle.builder.proofs.Runs.{row-in}
 use Rattle.builder.proofs.Stored.{pel-more}
 use Rattle.builder.proofs.Same.{offset-same, down-same, up-same, one-there}

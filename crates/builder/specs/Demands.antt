@@ -3,9 +3,8 @@
 use Prim.Native.Nat.{ℕ}
 use mathlib.Core.Path.{_≡_}
 use mathlib.Core.Logic.{_↔_, _⊎_}
-use mathlib.Core.Bool.{Bool, true, _&&_}
-use mathlib.Core.List.{List, [], _∷_}
-use lib.Dec.{ltb}
+use mathlib.Core.Bool.{true}
+use mathlib.Core.List.{List}
 use lib.IntN.{ℤ}
 use lib.ListN.{length, replicate}
 use Rattle.settings.specs.declared.refusal.Tested.{Tested}
@@ -14,6 +13,7 @@ use Rattle.settings.specs.declared.super_opts.SuperOpts.{SuperOpts}
 use Rattle.settings.specs.declared.super_opts.Packed.the-variants.{Word}
 use Rattle.settings.specs.declared.word.Description.{Description}
 use Rattle.settings.specs.Reading.{describe}
+use Rattle.settings.specs.LittleEndian.{bytes}
 use Rattle.settings.specs.Answers.{Answer, answer, tested, packed, Returns, packAnswer}
 use Rattle.builder.specs.declared.layout.Layout.{Layout}
 use Rattle.builder.specs.Layout.{spillNeed, scratchNeed}
@@ -22,10 +22,6 @@ use Rattle.builder.specs.Build.{builtFrame}
 use Rattle.builder.specs.Answers.{planeNo, buildAnswer, lentAfter}
 
 -- ---- "plane, source pitch, layout and starting frame"
-abbrev pub bytes : List ℕ → Bool
-bytes [] = true
-bytes (b ∷ l) = ltb b 256 && bytes l
-
 -- a layout is what is not the record's: the shifts and the pitch
 pub record Given : Type 0 where
   pub «x_shift» : ℕ

@@ -1,13 +1,12 @@
 -- An answer put at the front of a slice that has room for it or hasn't, and one that is put part after part. Assumes nothing.
-use mathlib.Core.Path.{_≡_, refl, sym, ap, _∙_}
+use mathlib.Core.Path.{_≡_, refl, ap, _∙_}
 use mathlib.Core.List.{List, [], _∷_, _++_}
 use Prim.Native.Nat.{ℕ, _+_, _≤_, _<_}
-use native.Mathlib.Nat.{zero-add}
 use native.Mathlib.Omega.{arith}
 use lib.ListN.{length, take, drop, set, length-append}
-use lib.Seq.{take-at, drop-append-add, drop-drop}
 use borrow.Author.Tests.{lt-ltb, le-ltb}
 use Rattle.settings.specs.Answers.{answer}
+use Rattle.settings.proofs.Pasting.{put-next}
 use Rattle.exports.specs.Answers.{tells}
 
 pub put-short : {A : Type 0} (values lent : List A) → length lent < length values → answer 15 lent ≡ tells 0 values lent
@@ -16,23 +15,9 @@ put-short values lent h = rw (lt-ltb (length lent) (length values) h)
 pub put-fits : {A : Type 0} {out : List A} (values lent : List A) → length values ≤ length lent → out ≡ values ++ drop (length values) lent → answer 0 out ≡ tells 0 values lent
 put-fits values lent h e = rw (le-ltb (length lent) (length values) h) (ap (answer 0) e)
 
--- the front, as a loop leaves it that starts at place 0
-pub from-start : {A : Type 0} {out : List A} (values lent : List A) → out ≡ take 0 lent ++ values ++ drop (0 + length values) lent → out ≡ values ++ drop (length values) lent
-from-start values lent e = e ∙ ap (λ (n : ℕ). values ++ drop n lent) (zero-add (length values))
-
 pub set-first : {A : Type 0} (a : A) (lent : List A) → 1 ≤ length lent → set lent 0 a ≡ (a ∷ []) ++ drop 1 lent
 set-first a [] h = absurd (omega arith)
 set-first a (x ∷ lent) h = refl
-
--- ys after xs, of which there are k
-pub put-next : {A : Type 0} {out next : List A} {k : ℕ} (xs ys lent : List A) → length xs ≡ k → out ≡ xs ++ drop k lent → next ≡ take k out ++ ys ++ drop (k + length ys) out → next ≡ (xs ++ ys) ++ drop (k + length ys) lent
-put-next {A} {out} {next} {k} xs ys lent long e f =
-    let rest = drop k lent in
-    f
-    ∙ ap (λ (o : List A). take k o ++ ys ++ drop (k + length ys) o) e
-    ∙ ap (λ (o : List A). o ++ ys ++ drop (k + length ys) (xs ++ rest)) (take-at xs rest k long)
-    ∙ ap (λ (n : ℕ). xs ++ ys ++ drop (n + length ys) (xs ++ rest)) (sym long)
-    ∙ ap (λ (o : List A). xs ++ ys ++ o) (drop-append-add xs rest (length ys) ∙ drop-drop (length ys) k lent)
 
 -- a layout's regions: a count, and three columns of 13
 module _ {A : Type 0} (n : A) (o w h : List A) (long-o : length o ≡ 13) (long-w : length w ≡ 13) (long-h : length h ≡ 13) where

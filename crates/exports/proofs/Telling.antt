@@ -1,5 +1,5 @@
 -- What a call tells, by the answer of the call that it makes. Assumes nothing.
-use mathlib.Core.Path.{_≡_, refl, sym, ap, _∙_}
+use mathlib.Core.Path.{_≡_, refl, ap, _∙_}
 use mathlib.Core.Bool.{Bool, true, false, cond, _&&_}
 use mathlib.Core.List.{List}
 use Prim.Native.Nat.{ℕ, _≤_, _<_}
@@ -8,10 +8,10 @@ use lib.Dec.{eqb, leb, ltb}
 use lib.ListN.{length}
 use borrow.Author.Tests.{eqb-false, le-leb, lt-ltb, le-ltb}
 use Rattle.settings.specs.declared.refusal.Refusal.{Refusal}
-use Rattle.settings.specs.Answers.{Answer, answer, complete, number}
-use Rattle.settings.proofs.Known.{number-some}
+use Rattle.settings.specs.Answers.{Answer, answer, complete, number, written}
+use Rattle.settings.proofs.Known.{number-some, number-of, value-given}
 use Rattle.settings.proofs.Tests.{and-no}
-use Rattle.exports.specs.Answers.{written, lowest, tells}
+use Rattle.exports.specs.Answers.{lowest, tells}
 
 chosen-some : (n : ℕ) (low short : Bool) → eqb n 0 ≡ false → eqb (cond low n (cond short 15 n)) 0 ≡ false
 chosen-some n true short h = h
@@ -39,13 +39,6 @@ lowest-other {m} f len need e h enough = rw (← e, not-low m h, le-ltb len need
 
 kept : {A : Type 0} (n : ℕ) (a lent : List A) → eqb n 0 ≡ false → answer n lent ≡ complete n a lent
 kept n a lent h = rw h
-
--- the number of an answer, and the value that is given where that is 0
-pub number-of : {B : Type 0} {m n : ℕ} {a b : B} → answer m a ≡ answer n b → m ≡ n
-number-of {B} e = ap (λ (x : Answer B). x .no) e
-
-pub value-given : {B : Type 0} {n : ℕ} {a : B} (b none : B) → answer 0 a ≡ complete n b none → a ≡ b
-value-given {B} b none e = ap (λ (x : Answer B). x .value) e ∙ ap (λ (m : ℕ). cond (eqb m 0) b none) (sym (number-of e))
 
 -- r is the number where the call that was made refuses by f, and k numbers would have been told
 pub tell-refused : {A : Type 0} {n k r : ℕ} (f : Refusal) (values lent : List A) → number f ≡ n → r ≡ lowest (number f) (ltb (length lent) k) → k ≡ length values → answer r lent ≡ tells n values lent

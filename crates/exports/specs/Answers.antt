@@ -1,25 +1,21 @@
 -- The number of each call, and what it leaves in the slice that is lent for its answer. "The lowest number that applies is given, and none other"; "no refusal changes a lent byte".
 use mathlib.Core.Bool.{Bool, cond, _&&_}
-use mathlib.Core.List.{List, [], _∷_, _++_}
+use mathlib.Core.List.{List, [], _∷_}
 use Prim.Native.Nat.{ℕ}
 use lib.Dec.{leb, ltb}
 use lib.IntN.{ℤ, pos}
-use lib.ListN.{length, drop}
+use lib.ListN.{length}
 use Rattle.settings.specs.declared.super_opts.Settings.{Settings}
 use Rattle.settings.specs.declared.super_opts.SuperOpts.{SuperOpts}
 use Rattle.settings.specs.Check.{settled, settingsNo, recordNo, superHeight, superWidth}
 use Rattle.settings.specs.Word.{packNo, wordOf}
 use Rattle.settings.specs.Reading.{candidate, readNo, describe}
-use Rattle.settings.specs.Answers.{Answer, complete}
+use Rattle.settings.specs.Answers.{Answer, complete, written}
 use Rattle.builder.specs.declared.layout.Layout.{Layout}
 use Rattle.builder.specs.Layout.{levelsOf, regionOr, writtenEnd}
 use Rattle.builder.specs.Numbers.{layoutNo, rowNo}
 use Rattle.builder.specs.Answers.{columns, needsOf, runOf}
 use Rattle.exports.specs.Numbers.{numbersOf, toldNumbers, columnNumbers, needNumbers, runNumbers}
-
--- values at the front, the rest as it was
-abbrev pub written : {A : Type 0} → List A → List A → List A
-written values lent = values ++ drop (length values) lent
 
 -- n, unless the slice is too short for the answer, document 02's 15, and no lower number applies
 abbrev pub lowest : ℕ → Bool → ℕ

@@ -1,16 +1,16 @@
--- A signed local holds bits. What a test on them says of the integer. Assumes nothing.
+-- A signed local holds bits. What a test on them says of the integer; and two's complement. Assumes nothing.
 use mathlib.Core.Path.{_≡_, refl, sym, ap, _∙_}
-use mathlib.Core.Bool.{Bool, true, false}
-use Prim.Native.Nat.{ℕ, zero, suc, _<_, _^_}
+use mathlib.Core.Bool.{Bool, true, false, cond}
+use Prim.Native.Nat.{ℕ, zero, suc, _-_, _<_, _^_}
 use native.Mathlib.Omega.{arith}
-use lib.Dec.{T, eqb}
+use lib.Dec.{T, eqb, ltb}
 use lib.IntN.{ℤ, pos, negsuc, natAbs, _-ℤ_}
 use lib.Signed.{ltZ, nonNeg, mag}
-use borrow.Author.Tests.{eq-eqb, ne-eqb, eqb-true, eqb-false, ltb-true, le-ltb}
+use borrow.Author.Tests.{eq-eqb, ne-eqb, eqb-true, eqb-false, ltb-true, ltb-false, lt-ltb, le-ltb}
 use mir.Syntax.{w32}
 use mir.Val.{Fits, SFits, ofZ, toZ}
 use mir.Facts.{toZ-ofZ, toZ-pos}
-use Rattle.settings.specs.Numbers.{isNat, toNat}
+use Rattle.settings.specs.Numbers.{isNat, toNat, isI32, bitsOf, ofBits}
 
 -- the integer that the bits of z are: z
 pub same : (z : ℤ) → SFits w32 z → toZ w32 (ofZ w32 z) ≡ z
@@ -69,3 +69,24 @@ turned-neg (negsuc n) e = rw (le-ltb (suc n) 1 (omega arith)) (ap pos (omega ari
 
 pub mag-fits : (z : ℤ) → SFits w32 z → SFits w32 (pos (mag z))
 mag-fits z fit = record { sfits = fit .sfits }
+
+-- ---- two's complement, there and back
+pub of-bits-back : (z : ℤ) → isI32 z ≡ true → ofBits (bitsOf z) ≡ z
+of-bits-back (pos n) e = rw e
+of-bits-back (negsuc n) e =
+    let small = ltb-true n (2 ^ 31) e in
+    rw (le-ltb (2 ^ 32 - 1 - n) (2 ^ 31) (omega arith)) (ap negsuc (omega arith))
+
+bits-go : (n : ℕ) (t : Bool) → ltb n (2 ^ 31) ≡ t → n < 2 ^ 32 → (bitsOf (cond t (pos n) (negsuc (2 ^ 32 - 1 - n))) ≡ n) × (isI32 (cond t (pos n) (negsuc (2 ^ 32 - 1 - n))) ≡ true)
+bits-go n true e h = (refl, e)
+bits-go n false e h = let high = ltb-false n (2 ^ 31) e in (omega arith, lt-ltb (2 ^ 32 - 1 - n) (2 ^ 31) (omega arith))
+
+pub bits-back : (n : ℕ) → n < 2 ^ 32 → bitsOf (ofBits n) ≡ n
+bits-back n h = bits-go n (ltb n (2 ^ 31)) refl h .0
+
+pub of-bits-fit : (n : ℕ) → n < 2 ^ 32 → isI32 (ofBits n) ≡ true
+of-bits-fit n h = bits-go n (ltb n (2 ^ 31)) refl h .1
+
+pub bits-small : (z : ℤ) → isI32 z ≡ true → bitsOf z < 2 ^ 32
+bits-small (pos n) e = omega (arith, ltb-true n (2 ^ 31) e)
+bits-small (negsuc n) e = omega arith

@@ -7,7 +7,7 @@ use borrow.Author.Tests.{ne-eqb}
 use lib.Dec.{eqb}
 use lib.IntN.{pos}
 use Rattle.settings.specs.declared.refusal.Refusal.{Refusal}
-use Rattle.settings.specs.declared.refusal.Refusal.the-variants.{Pel, Gpu, Finest, Lean, Side, NoRecord, Shift, Pitch, SourcePitch, Source, Frame, Spill, Scratch, Levels, NoRow, NoCode, Halving, Upscale}
+use Rattle.settings.specs.declared.refusal.Refusal.the-variants.{Pel, Gpu, Finest, Lean, Side, NoRecord, Shift, Pitch, SourcePitch, Source, Frame, Spill, Scratch, Levels, Short, Length, Contents, NoRow, NoCode, Halving, Upscale}
 use Rattle.settings.specs.declared.refusal.Tested.{Tested}
 use Rattle.settings.specs.declared.refusal.Tested.the-variants.{Fine, Refused as TestRefused}
 use Rattle.settings.specs.declared.super_opts.Checked.{Checked}
@@ -18,13 +18,17 @@ use Rattle.settings.specs.declared.super_opts.Sized.{Sized}
 use Rattle.settings.specs.declared.super_opts.Sized.the-variants.{Size, Refused as SizeRefused}
 use Rattle.settings.specs.declared.word.Told.{Told}
 use Rattle.settings.specs.declared.word.Told.the-variants.{Tells, Refused as ReadRefused}
+use Rattle.settings.specs.declared.longhand.Longhand.{Longhand}
+use Rattle.settings.specs.declared.longhand.Read.{Read}
+use Rattle.settings.specs.declared.longhand.Read.the-variants.{Record, Unknown, Refused as LonghandRefused}
 use Rattle.settings.specs.Numbers.{_then_}
 use Rattle.settings.specs.Answers.{Answer, answer, complete, number, tested, checked, packed, sized, told, noRecord, noDescription}
+use Rattle.settings.specs.Longhand.{readAs}
 
 -- ---- a refusal's number tells which refusal it is, and is not 0
 -- the refusal of a number
 abbrev refusalOf : ℕ → Refusal
-refusalOf n = cond (eqb n 1) Pel (cond (eqb n 2) Gpu (cond (eqb n 3) Finest (cond (eqb n 4) Lean (cond (eqb n 5) Side (cond (eqb n 6) NoRecord (cond (eqb n 7) Shift (cond (eqb n 8) Pitch (cond (eqb n 9) SourcePitch (cond (eqb n 10) Source (cond (eqb n 11) Frame (cond (eqb n 12) Spill (cond (eqb n 13) Scratch (cond (eqb n 14) Levels (cond (eqb n 19) NoRow (cond (eqb n 20) NoCode (cond (eqb n 21) Halving (Upscale)))))))))))))))))
+refusalOf n = cond (eqb n 1) Pel (cond (eqb n 2) Gpu (cond (eqb n 3) Finest (cond (eqb n 4) Lean (cond (eqb n 5) Side (cond (eqb n 6) NoRecord (cond (eqb n 7) Shift (cond (eqb n 8) Pitch (cond (eqb n 9) SourcePitch (cond (eqb n 10) Source (cond (eqb n 11) Frame (cond (eqb n 12) Spill (cond (eqb n 13) Scratch (cond (eqb n 14) Levels (cond (eqb n 15) Short (cond (eqb n 17) Length (cond (eqb n 18) Contents (cond (eqb n 19) NoRow (cond (eqb n 20) NoCode (cond (eqb n 21) Halving (Upscale))))))))))))))))))))
 
 number-back : (f : Refusal) → refusalOf (number f) ≡ f
 number-back Pel = refl
@@ -41,13 +45,24 @@ number-back Frame = refl
 number-back Spill = refl
 number-back Scratch = refl
 number-back Levels = refl
+number-back Short = refl
+number-back Length = refl
+number-back Contents = refl
 number-back NoRow = refl
 number-back NoCode = refl
 number-back Halving = refl
 number-back Upscale = refl
 
+-- a number that goes back to the last refusal alone is the last's or none's
+none-of : (f : Refusal) (n : ℕ) → refusalOf n ≡ Upscale → (n ≡ 22 → ⊥) → number f ≡ n → ⊥
+none-of f n back other e = let last : f ≡ Upscale = sym (number-back f) ∙ ap refusalOf e ∙ back in other (sym e ∙ ap number last)
+
 number-not-0 : (f : Refusal) → number f ≡ 0 → ⊥
-number-not-0 f e = let last : f ≡ Upscale = sym (number-back f) ∙ ap refusalOf e in omega (arith, ap number last)
+number-not-0 f = none-of f 0 refl (λ e. omega arith)
+
+-- an unknown kind's number is no refusal's
+pub number-known : (f : Refusal) → eqb (number f) 16 ≡ false
+number-known f = ne-eqb (number f) 16 (none-of f 16 refl (λ e. omega arith))
 
 pub number-some : (f : Refusal) → eqb (number f) 0 ≡ false
 number-some f = ne-eqb (number f) 0 (number-not-0 f)
@@ -65,6 +80,13 @@ given n a none e = rw e
 
 pub refused : {A : Type 0} (n : ℕ) (f : Refusal) (a none : A) → number f ≡ n → answer (number f) none ≡ complete n a none
 refused n f a none e = rw (← e, number-some f)
+
+-- the number of an answer, and the value that is given where that is 0
+pub number-of : {B : Type 0} {m n : ℕ} {a b : B} → answer m a ≡ answer n b → m ≡ n
+number-of {B} e = ap (λ (x : Answer B). x .no) e
+
+pub value-given : {B : Type 0} {n : ℕ} {a : B} (b none : B) → answer 0 a ≡ complete n b none → a ≡ b
+value-given {B} b none e = ap (λ (x : Answer B). x .value) e ∙ ap (λ (m : ℕ). cond (eqb m 0) b none) (sym (number-of e))
 
 -- ---- an answer is known by its number and value
 -- f is known by its value, where g takes it back
@@ -119,3 +141,15 @@ told-back (ReadRefused f) = refusal-back Tells ReadRefused f noDescription
 
 pub told-known : (a b : Told) → told a ≡ told b → a ≡ b
 told-known = known-by told (from Tells ReadRefused) told-back
+
+-- an unknown kind has a place, and a number that is no refusal's
+abbrev read-from : Answer Longhand → Read
+read-from a = cond (eqb (a .no) 0) (Record (a .value)) (cond (eqb (a .no) 16) (Unknown (a .value .after)) (LonghandRefused (refusalOf (a .no))))
+
+read-back : (a : Read) → read-from (readAs a) ≡ a
+read-back (Record h) = refl
+read-back (Unknown place) = refl
+read-back (LonghandRefused f) = rw (number-some f, number-known f, number-back f)
+
+pub read-known : (a b : Read) → readAs a ≡ readAs b → a ≡ b
+read-known = known-by readAs read-from read-back

@@ -9,10 +9,16 @@
 --     Accepted   what acceptance says, and that it holds exactly of what the check returns
 --     Words      a packed word's fields, and records with one word
 --     Told       demand 3 as far as records go
+--     Pasting    values copied into a slice
+--     Bytes      numbers as bytes
+--     Bodies     the body of kind 1 and its record, both ways
+--     Longhands  longhand records: what reading comes to, and what writing leaves
+--     Encodings  a record survives, has one encoding, and ends where its length says
 --     Lines      text put together
 --     Printed    what reading prints is short
 --     ByHand     document 01's table, computed
 --     Outcome    what a call promises, one outcome, and the law behind it
+--     Roundtrip  what is written is read, about the calls
 --     Unique     one outcome for each public call
 pub mod Tests
 pub mod Integers
@@ -24,8 +30,14 @@ pub mod Known
 pub mod Accepted
 pub mod Words
 pub mod Told
+pub mod Pasting
+pub mod Bytes
+pub mod Bodies
+pub mod Longhands
+pub mod Encodings
 pub mod Lines
 pub mod Printed
 pub mod ByHand
 pub mod Outcome
+pub mod Roundtrip
 pub mod Unique

@@ -2,10 +2,12 @@
 use Prim.Native.Nat.{ℕ}
 use mathlib.Core.Path.{_≡_}
 use mathlib.Core.Bool.{true, false, cond}
+use mathlib.Core.List.{List, _++_}
 use lib.Dec.{eqb}
 use lib.IntN.{ℤ, pos}
+use lib.ListN.{length, drop}
 use Rattle.settings.specs.declared.refusal.Refusal.{Refusal}
-use Rattle.settings.specs.declared.refusal.Refusal.the-variants.{Pel, Gpu, Finest, Lean, Side, NoRecord, Shift, Pitch, SourcePitch, Source, Frame, Spill, Scratch, Levels, NoRow, NoCode, Halving, Upscale}
+use Rattle.settings.specs.declared.refusal.Refusal.the-variants.{Pel, Gpu, Finest, Lean, Side, NoRecord, Shift, Pitch, SourcePitch, Source, Frame, Spill, Scratch, Levels, Short, Length, Contents, NoRow, NoCode, Halving, Upscale}
 use Rattle.settings.specs.declared.refusal.Tested.{Tested}
 use Rattle.settings.specs.declared.refusal.Tested.the-variants.{Fine, Refused as TestRefused}
 use Rattle.settings.specs.declared.super_opts.OptInt.the-variants.{Absent as NoInt}
@@ -41,6 +43,9 @@ number Frame = 11
 number Spill = 12
 number Scratch = 13
 number Levels = 14
+number Short = 15
+number Length = 17
+number Contents = 18
 number NoRow = 19
 number NoCode = 20
 number Halving = 21
@@ -57,6 +62,10 @@ answer n a = record { no = n; value = a }
 -- a, or `none` where the number is a refusal's
 abbrev pub complete : {A : Type 0} → ℕ → A → A → Answer A
 complete n a none = answer n (cond (eqb n 0) a none)
+
+-- values at the front of what is lent, the rest as it was
+abbrev pub written : {A : Type 0} → List A → List A → List A
+written values lent = values ++ drop (length values) lent
 
 -- ---- the calls
 -- "a record of zeros"

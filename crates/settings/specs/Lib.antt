@@ -6,6 +6,9 @@
 --     Word       the word that a record packs to
 --     Reading    which build a word names, and comparing two words
 --     Answers    the number and value of each call, and of each answer that is an enum
+--     LittleEndian  numbers as bytes
+--     Kind1      the body of a longhand record of kind 1
+--     Longhand   the longhand record: its frame, and the number and value of reading and writing
 --     Text       the line that the program prints for a line
 -- What is proved of these is in proofs/.
 pub mod Limits
@@ -15,4 +18,7 @@ pub mod Check
 pub mod Word
 pub mod Reading
 pub mod Answers
+pub mod LittleEndian
+pub mod Kind1
+pub mod Longhand
 pub mod Text

@@ -4,8 +4,14 @@
 //     numbers       integers and bools read as numbers
 //     super_opts    settings, `SuperOpts` and its calls: check, accepted, word, super sizes
 //     word          a word read back, and two words compared
+//     little_endian numbers as bytes
+//     kind1         the body of a longhand record of kind 1
+//     longhand      the longhand record: written and read
 //     text          the line that is printed for a line
+mod kind1;
 pub mod limits;
+mod little_endian;
+pub mod longhand;
 pub mod numbers;
 pub mod refusal;
 pub mod super_opts;

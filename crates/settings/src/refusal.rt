@@ -1,11 +1,11 @@
-// Why a call is refused, as document 01 numbers it.
+// Why a call is refused, as documents 01 and 02 number it.
 // First the refusals and the answer of a test; then the number of a refusal; last a row of refusals, put together one by one.
 ghost use mathlib.Core.Path.{_≡_};
 ghost use lib.Dec.{eqb};
 ghost use Rattle.settings.specs.Numbers.{refuse, _then_};
 ghost use Rattle.settings.specs.Answers.{number, tested};
 
-// Why a call is refused: "Numbers a call can give" of document 01, in its order.
+// Why a call is refused: "Numbers a call can give" of document 01, in its order, and 15, 17 and 18 of document 02.
 pub enum Refusal {
     Pel,
     Gpu,
@@ -21,6 +21,9 @@ pub enum Refusal {
     Spill,
     Scratch,
     Levels,
+    Short,
+    Length,
+    Contents,
     NoRow,
     NoCode,
     Halving,
@@ -52,6 +55,9 @@ impl Refusal {
             Refusal::Spill => 12,
             Refusal::Scratch => 13,
             Refusal::Levels => 14,
+            Refusal::Short => 15,
+            Refusal::Length => 17,
+            Refusal::Contents => 18,
             Refusal::NoRow => 19,
             Refusal::NoCode => 20,
             Refusal::Halving => 21,

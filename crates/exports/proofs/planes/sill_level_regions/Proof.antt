@@ -12,7 +12,8 @@ use Rattle.builder.specs.Answers.{Columns, columns}
 use Rattle.builder.proofs.Known.{columns-full}
 use Rattle.exports.specs.Numbers.{columnNumbers}
 use Rattle.exports.specs.Answers.{regionsTells}
-use Rattle.exports.proofs.Telling.{number-of, tell-refused, tell-given}
+use Rattle.settings.proofs.Known.{number-of}
+use Rattle.exports.proofs.Telling.{tell-refused, tell-given}
 use Rattle.exports.proofs.Putting.{columns-long}
 use Rattle.exports.proofs.planes.sill_level_regions.Statement.{statement}
 use Rattle.exports.proofs.planes.sill_level_regions.Tie as tie

@@ -6,7 +6,8 @@ use Rattle.builder.specs.declared.layout.Layout.{Layout}
 use Rattle.builder.specs.Answers.{needed, needsOf, noNeeds}
 use Rattle.exports.specs.Numbers.{needNumbers}
 use Rattle.exports.specs.Answers.{needsTells}
-use Rattle.exports.proofs.Telling.{number-of, tell-refused, tell-given}
+use Rattle.settings.proofs.Known.{number-of}
+use Rattle.exports.proofs.Telling.{tell-refused, tell-given}
 use Rattle.exports.proofs.planes.sill_needs.Statement.{statement}
 use Rattle.exports.proofs.planes.sill_needs.Tie as tie
 

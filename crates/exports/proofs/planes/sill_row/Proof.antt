@@ -6,7 +6,8 @@ use Rattle.builder.specs.declared.layout.Layout.{Layout}
 use Rattle.builder.specs.Answers.{placed, runOf, noRun}
 use Rattle.exports.specs.Numbers.{runNumbers}
 use Rattle.exports.specs.Answers.{rowTells}
-use Rattle.exports.proofs.Telling.{number-of, tell-refused, tell-given}
+use Rattle.settings.proofs.Known.{number-of}
+use Rattle.exports.proofs.Telling.{tell-refused, tell-given}
 use Rattle.exports.proofs.planes.sill_row.Statement.{statement}
 use Rattle.exports.proofs.planes.sill_row.Tie as tie
 

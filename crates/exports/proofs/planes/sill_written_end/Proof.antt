@@ -8,7 +8,8 @@ use Rattle.builder.specs.declared.layout.Layout.{Layout}
 use Rattle.builder.specs.Layout.{writtenEnd}
 use Rattle.builder.specs.Answers.{ended}
 use Rattle.exports.specs.Answers.{endTells}
-use Rattle.exports.proofs.Telling.{number-of, tell-refused, tell-given}
+use Rattle.settings.proofs.Known.{number-of}
+use Rattle.exports.proofs.Telling.{tell-refused, tell-given}
 use Rattle.exports.proofs.planes.sill_written_end.Statement.{statement}
 use Rattle.exports.proofs.planes.sill_written_end.Tie as tie
 

@@ -4,7 +4,7 @@ use Prim.Native.Nat.{_-_}
 use native.Mathlib.Omega.{arith}
 use lib.ListN.{length}
 use denote.Ref.{now}
-use Rattle.exports.proofs.Pasting.{Pasted, pasted-none, pasted-more, pasted-whole}
+use Rattle.settings.proofs.Pasting.{Pasted, pasted-none, pasted-more, pasted-whole}
 use Rattle.exports.proofs.room.put_at.Statement.{statement}
 use Rattle.exports.proofs.room.put_at.Tie as tie
 

@@ -7,8 +7,8 @@ use lib.ListN.{length}
 use mir.Facts.{toZ-ofZ}
 use denote.Ref.{now}
 use borrow.Author.Needs.{sfits-of}
-use Rattle.exports.proofs.Putting.{put-short, put-fits, from-start}
-use Rattle.exports.proofs.Pasting.{Pasted, pasted-none, pasted-more, pasted-whole}
+use Rattle.exports.proofs.Putting.{put-short, put-fits}
+use Rattle.settings.proofs.Pasting.{Pasted, pasted-none, pasted-more, pasted-whole, from-start}
 use Rattle.exports.proofs.room.put_numbers.Statement.{statement}
 use Rattle.exports.proofs.room.put_numbers.Tie as tie
 

@@ -1,7 +1,8 @@
 -- `put_sizes` meets its contract. Assumes nothing.
 use denote.Ref.{now}
 use borrow.Author.Needs.{needs}
-use Rattle.exports.proofs.Putting.{put-short, put-fits, from-start}
+use Rattle.settings.proofs.Pasting.{from-start}
+use Rattle.exports.proofs.Putting.{put-short, put-fits}
 use Rattle.exports.proofs.room.put_sizes.Statement.{statement}
 use Rattle.exports.proofs.room.put_sizes.Tie as tie
 

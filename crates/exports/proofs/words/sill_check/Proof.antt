@@ -6,7 +6,8 @@ use Rattle.settings.specs.Check.{settled}
 use Rattle.settings.specs.Answers.{checked, checkAnswer, noRecord}
 use Rattle.settings.proofs.Integers.{same}
 use Rattle.exports.specs.Numbers.{numbersOf, settingsOf}
-use Rattle.exports.proofs.Telling.{number-of, tell-refused, tell-given}
+use Rattle.settings.proofs.Known.{number-of}
+use Rattle.exports.proofs.Telling.{tell-refused, tell-given}
 use Rattle.exports.proofs.words.sill_check.Statement.{statement}
 use Rattle.exports.proofs.words.sill_check.Tie as tie
 

@@ -1,11 +1,12 @@
--- A loop that copies values into out, from place at on: what it knows at its head, one store more, and its end. Assumes nothing.
+-- Values copied into out, from place at on: what a loop that does it knows at its head, one store more, and its end; then values at the front, and values after those. Assumes nothing.
 use mathlib.Core.Path.{_≡_, refl, sym, ap, _∙_}
 use mathlib.Core.List.{List, _++_}
 use Prim.Native.Nat.{ℕ, _+_, _≤_, _<_}
+use native.Mathlib.Nat.{zero-add}
 use native.Mathlib.Numerals.{add-one}
 use native.Mathlib.Omega.{arith}
 use lib.ListN.{length, take, drop, getD, set, length-set}
-use lib.Seq.{paste, paste-zero, paste-suc, take-length}
+use lib.Seq.{paste, paste-zero, paste-suc, take-length, take-at, drop-append-add, drop-drop}
 
 pub record Pasted {A : Type 0} (before : List A) (at : ℕ) (values out : List A) (i : ℕ) : Type 0 where
   pub most : i ≤ length values
@@ -32,3 +33,17 @@ pasted-whole {A} {before} {values} {out} {at} {i} h le =
   where
     eq : {m n : ℕ} → m ≤ n → n ≤ m → m ≡ n
     eq a b = omega arith
+
+-- the front, as a loop leaves it that starts at place 0
+pub from-start : {A : Type 0} {out : List A} (values lent : List A) → out ≡ take 0 lent ++ values ++ drop (0 + length values) lent → out ≡ values ++ drop (length values) lent
+from-start values lent e = e ∙ ap (λ (n : ℕ). values ++ drop n lent) (zero-add (length values))
+
+-- ys after xs, of which there are k
+pub put-next : {A : Type 0} {out next : List A} {k : ℕ} (xs ys lent : List A) → length xs ≡ k → out ≡ xs ++ drop k lent → next ≡ take k out ++ ys ++ drop (k + length ys) out → next ≡ (xs ++ ys) ++ drop (k + length ys) lent
+put-next {A} {out} {next} {k} xs ys lent long e f =
+    let rest = drop k lent in
+    f
+    ∙ ap (λ (o : List A). take k o ++ ys ++ drop (k + length ys) o) e
+    ∙ ap (λ (o : List A). o ++ ys ++ drop (k + length ys) (xs ++ rest)) (take-at xs rest k long)
+    ∙ ap (λ (n : ℕ). xs ++ ys ++ drop (n + length ys) (xs ++ rest)) (sym long)
+    ∙ ap (λ (o : List A). xs ++ ys ++ o) (drop-append-add xs rest (length ys) ∙ drop-drop (length ys) k lent)
