@@ -9,8 +9,6 @@
 --     Accepted   what acceptance says, and that it holds exactly of what the check returns
 --     Words      a packed word's fields, and records with one word
 --     Told       demand 3 as far as records go
---     Lines      text put together
---     Printed    what reading prints is short
 --     ByHand     document 01's table, computed
 --     Outcome    what a call promises, one outcome, and the law behind it
 --     Unique     one outcome for each public call
@@ -24,8 +22,6 @@ pub mod Known
 pub mod Accepted
 pub mod Words
 pub mod Told
-pub mod Lines
-pub mod Printed
 pub mod ByHand
 pub mod Outcome
 pub mod Unique

@@ -6,7 +6,6 @@
 --     Word       the word that a record packs to
 --     Reading    which build a word names, and comparing two words
 --     Answers    the number and value of each call, and of each answer that is an enum
---     Text       the line that the program prints for a line
 -- What is proved of these is in proofs/.
 pub mod Limits
 pub mod Numbers
@@ -15,4 +14,3 @@ pub mod Check
 pub mod Word
 pub mod Reading
 pub mod Answers
-pub mod Text

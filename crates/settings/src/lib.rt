@@ -4,10 +4,8 @@
 //     numbers       integers and bools read as numbers
 //     super_opts    settings, `SuperOpts` and its calls: check, accepted, word, super sizes
 //     word          a word read back, and two words compared
-//     text          the line that is printed for a line
 pub mod limits;
 pub mod numbers;
 pub mod refusal;
 pub mod super_opts;
-pub mod text;
 pub mod word;

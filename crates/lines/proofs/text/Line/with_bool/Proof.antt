@@ -1,0 +1,32 @@
+-- `with_bool` meets its contract. Assumes nothing.
+use mathlib.Core.Path.{_≡_, refl, ap}
+use mathlib.Core.Bool.{Bool, true, false}
+use Prim.Native.Nat.{ℕ, _<_}
+use native.Mathlib.Omega.{arith}
+use mir.Val.{boolByte}
+use borrow.Author.Needs.{needs}
+use Rattle.settings.specs.Numbers.{bit}
+use Rattle.lines.specs.Text.{decimal, spaced, mostPrinted}
+use Rattle.lines.proofs.Lines.{said}
+use Rattle.lines.proofs.text.Line.with_bool.Statement.{statement}
+use Rattle.lines.proofs.text.Line.with_bool.Tie as tie
+
+below : (b : Bool) → boolByte b < mostPrinted
+below true = omega arith
+below false = omega arith
+
+is-bit : (b : Bool) → boolByte b ≡ bit b
+is-bit true = refl
+is-bit false = refl
+
+cast-with-number : tie.Need-cast-with-number
+cast-with-number c = search needs
+
+with-number-requires : tie.Need-with-number-requires
+with-number-requires c κs = (c .pre, below (c .args .b))
+
+returns : tie.Need-returns
+returns c = said (ap (λ (n : ℕ). spaced (decimal n)) (is-bit (c .before .args .b))) (c .with-number .ensures)
+
+pub with-bool-spec : {M : Type 1} → statement M
+with-bool-spec = tie.close (tie.spec cast-with-number with-number-requires returns)

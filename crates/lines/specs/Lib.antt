@@ -1,0 +1,4 @@
+-- Document 01, "Words read and compared": the program's lines, as definitions.
+--     Text       the line that the program `words` prints for a line
+-- What is proved of these is in proofs/.
+pub mod Text

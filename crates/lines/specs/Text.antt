@@ -1,0 +1,122 @@
+-- Document 01, "Words read and compared": the line that the program prints for a line.
+use Prim.Native.Nat.{ℕ, zero, suc, _+_, _*_, _-_, _/_, _%_, _≤_, _<_}
+use mathlib.Core.Path.{_≡_}
+use mathlib.Core.Bool.{Bool, true, cond, _&&_, _||_}
+use mathlib.Core.List.{List, [], _∷_, _++_}
+use lib.Dec.{leb, ltb, eqb}
+use lib.ListN.{length, getD, take}
+use Rattle.settings.specs.declared.super_opts.OptInt.{OptInt}
+use Rattle.settings.specs.declared.super_opts.OptInt.the-variants.{Given as GivenInt, Absent as NoInt}
+use Rattle.settings.specs.declared.word.Description.{Description}
+use Rattle.lines.specs.declared.text.Line.{Line}
+use Rattle.lines.specs.declared.text.Hex.{Hex}
+use Rattle.lines.specs.declared.text.Hex.the-variants.{Word, Other}
+use Rattle.settings.specs.Numbers.{toNat, bit}
+use Rattle.settings.specs.Answers.{readAnswer}
+
+-- ---- in: "A line of 16 digits 0-9a-f"
+abbrev pub isHex : ℕ → Bool
+isHex b = (leb 48 b && leb b 57) || (leb 97 b && leb b 102)
+
+abbrev pub hexOf : ℕ → ℕ
+hexOf b = cond (leb b 57) (b - 48) (b - 87)
+
+unfoldable pub allHex : List ℕ → Bool
+allHex [] = true
+allHex (b ∷ l) = isHex b && allHex l
+
+-- v and the digits of l after it
+unfoldable pub hexWord : ℕ → List ℕ → ℕ
+hexWord v [] = v
+hexWord v (b ∷ l) = hexWord (16 * v + hexOf b) l
+
+abbrev pub hexRead : List ℕ → Hex
+hexRead l = cond (eqb (length l) 16 && allHex l) (Word (hexWord 0 l)) Other
+
+-- ---- out: decimal, of at most k digits
+unfoldable pub digits : ℕ → ℕ → List ℕ
+digits zero n = []
+digits (suc k) n = let more = digits k (n / 10) ++ ((48 + n % 10) ∷ []) in cond (ltb n 10) ((48 + n) ∷ []) more
+
+abbrev pub decimal : ℕ → List ℕ
+decimal n = digits 20 n
+
+-- the digit of n at a place, a power of ten; none before the first
+abbrev pub digitAt : ℕ → ℕ → List ℕ
+digitAt n p = cond (leb p n) ((48 + n / p % 10) ∷ []) []
+
+-- "parted by single spaces"
+abbrev pub spaced : List ℕ → List ℕ
+spaced l = 32 ∷ l
+
+-- "`-` for one that doesn't matter"
+abbrev pub optional : OptInt → List ℕ
+optional (GivenInt z) = spaced (decimal (toNat z))
+optional NoInt = spaced (45 ∷ [])
+
+-- "width, height, pel, levels, gpu, full, rc, lean, down, up"
+abbrev pub sizesText : Description → List ℕ
+sizesText d =
+    spaced (decimal (toNat (d .width)))
+    ++ spaced (decimal (toNat (d .height)))
+    ++ spaced (decimal (toNat (d .pel)))
+    ++ spaced (decimal (toNat (d .levels)))
+    ++ spaced (decimal (toNat (d .gpu)))
+
+abbrev pub flagsText : Description → List ℕ
+flagsText d = spaced (decimal (bit (d .full))) ++ spaced (decimal (bit (d .rc))) ++ spaced (decimal (bit (d .lean)))
+
+abbrev pub filtersText : Description → List ℕ
+filtersText d = optional (d .down) ++ optional (d .up)
+
+unfoldable pub described : Description → List ℕ
+described d = sizesText d ++ flagsText d ++ filtersText d
+
+-- "prints, parted by single spaces, itself and the number, and after 0: .."
+unfoldable pub wordLine : List ℕ → ℕ → List ℕ
+wordLine l v =
+    let a = readAnswer v in
+    l ++ spaced (decimal (a .no)) ++ cond (eqb (a .no) 0) (described (a .value)) []
+
+-- "Any other line prints `-`. Each printed line ends in a newline."
+abbrev pub lineOf : List ℕ → Hex → List ℕ
+lineOf l (Word v) = wordLine l v ++ (10 ∷ [])
+lineOf l Other = 45 ∷ 10 ∷ []
+
+abbrev pub lineOut : List ℕ → List ℕ
+lineOut l = lineOf l (hexRead l)
+
+-- ---- a line that is being made
+abbrev pub shown : Line → List ℕ
+shown l = take (l .len) (l .bytes)
+
+-- r is l with the text t after it, of at most k bytes
+pub record Appended (l r : Line) (t : List ℕ) (k : ℕ) : Type 0 where
+  pub text : shown r ≡ shown l ++ t
+  pub room : r .len ≤ l .len + k
+
+-- what a number that is printed is below: five digits
+abbrev pub mostPrinted : ℕ
+mostPrinted = 100000
+
+abbrev pub optionalNat : OptInt → ℕ
+optionalNat (GivenInt z) = toNat z
+optionalNat NoInt = 0
+
+-- the numbers of a description have five digits at most
+pub record Printable (d : Description) : Type 0 where
+  pub width : toNat (d .width) < mostPrinted
+  pub height : toNat (d .height) < mostPrinted
+  pub pel : toNat (d .pel) < mostPrinted
+  pub levels : toNat (d .levels) < mostPrinted
+  pub gpu : toNat (d .gpu) < mostPrinted
+  pub down : optionalNat (d .down) < mostPrinted
+  pub up : optionalNat (d .up) < mostPrinted
+
+-- ---- lines of the input
+-- the line of s that starts at `from` ends at e: there is no newline in between, and one at e unless that is the end. "A last line may lack its newline."
+pub record LineEnd (s : List ℕ) (from e : ℕ) : Type 0 where
+  pub start : from ≤ e
+  pub end : e ≤ length s
+  pub before : (k : ℕ) → k < e → from ≤ k → getD s k 0 ≡ 10 → ⊥
+  pub newline : e < length s → getD s e 0 ≡ 10

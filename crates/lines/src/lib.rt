@@ -1,0 +1,5 @@
+// Lines of text: what the programs print for a line of their input.
+//     limits        how much input the programs take
+//     text          a line with a word, hexadecimal in and decimal out, and where a line ends
+pub mod limits;
+pub mod text;
