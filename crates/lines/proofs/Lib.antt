@@ -1,7 +1,5 @@
 -- What is proved of the definitions of specs/ and used by the proofs of the functions, in the order in which one leans on the other:
 --     Lines      text put together
---     Printed    what reading prints is short
 --     Unique     one outcome for each public call
 pub mod Lines
-pub mod Printed
 pub mod Unique

@@ -4,14 +4,15 @@ use mathlib.Core.Path.{_≡_}
 use mathlib.Core.Bool.{Bool, true, cond, _&&_, _||_}
 use mathlib.Core.List.{List, [], _∷_, _++_}
 use lib.Dec.{leb, ltb, eqb}
+use lib.IntN.{ℤ, pos, negsuc}
 use lib.ListN.{length, getD, take}
 use Rattle.settings.specs.declared.super_opts.OptInt.{OptInt}
 use Rattle.settings.specs.declared.super_opts.OptInt.the-variants.{Given as GivenInt, Absent as NoInt}
 use Rattle.settings.specs.declared.word.Description.{Description}
 use Rattle.lines.specs.declared.text.Line.{Line}
-use Rattle.lines.specs.declared.text.Hex.{Hex}
-use Rattle.lines.specs.declared.text.Hex.the-variants.{Word, Other}
-use Rattle.settings.specs.Numbers.{toNat, bit}
+use Rattle.lines.specs.declared.text.Number.{Number}
+use Rattle.lines.specs.declared.text.Number.the-variants.{Value, Other}
+use Rattle.settings.specs.Numbers.{bit}
 use Rattle.settings.specs.Answers.{readAnswer}
 
 -- ---- in: "A line of 16 digits 0-9a-f"
@@ -21,17 +22,21 @@ isHex b = (leb 48 b && leb b 57) || (leb 97 b && leb b 102)
 abbrev pub hexOf : ℕ → ℕ
 hexOf b = cond (leb b 57) (b - 48) (b - 87)
 
-unfoldable pub allHex : List ℕ → Bool
-allHex [] = true
-allHex (b ∷ l) = isHex b && allHex l
+-- a digit of numbers to that base
+abbrev pub isDigit : ℕ → ℕ → Bool
+isDigit base b = isHex b && ltb (hexOf b) base
+
+unfoldable pub allDigits : ℕ → List ℕ → Bool
+allDigits base [] = true
+allDigits base (b ∷ l) = isDigit base b && allDigits base l
 
 -- v and the digits of l after it
-unfoldable pub hexWord : ℕ → List ℕ → ℕ
-hexWord v [] = v
-hexWord v (b ∷ l) = hexWord (16 * v + hexOf b) l
+unfoldable pub numberOf : ℕ → ℕ → List ℕ → ℕ
+numberOf base v [] = v
+numberOf base v (b ∷ l) = numberOf base (base * v + hexOf b) l
 
-abbrev pub hexRead : List ℕ → Hex
-hexRead l = cond (eqb (length l) 16 && allHex l) (Word (hexWord 0 l)) Other
+abbrev pub hexRead : List ℕ → Number
+hexRead l = cond (eqb (length l) 16 && allDigits 16 l) (Value (numberOf 16 0 l)) Other
 
 -- ---- out: decimal, of at most k digits
 unfoldable pub digits : ℕ → ℕ → List ℕ
@@ -41,9 +46,25 @@ digits (suc k) n = let more = digits k (n / 10) ++ ((48 + n % 10) ∷ []) in con
 abbrev pub decimal : ℕ → List ℕ
 decimal n = digits 20 n
 
--- the digit of n at a place, a power of ten; none before the first
-abbrev pub digitAt : ℕ → ℕ → List ℕ
-digitAt n p = cond (leb p n) ((48 + n / p % 10) ∷ []) []
+abbrev pub magnitude : ℤ → ℕ
+magnitude (pos n) = n
+magnitude (negsuc n) = suc n
+
+abbrev pub signed : ℤ → List ℕ
+signed (pos n) = decimal n
+signed (negsuc n) = 45 ∷ decimal (suc n)
+
+-- ---- out: hexadecimal, the last k digits of n; and two for each byte
+abbrev pub hexDigit : ℕ → ℕ
+hexDigit d = cond (ltb d 10) (48 + d) (87 + d)
+
+unfoldable pub hexDigits : ℕ → ℕ → List ℕ
+hexDigits zero n = []
+hexDigits (suc k) n = hexDigits k (n / 16) ++ (hexDigit (n % 16) ∷ [])
+
+unfoldable pub hexText : List ℕ → List ℕ
+hexText [] = []
+hexText (b ∷ l) = hexDigits 2 b ++ hexText l
 
 -- "parted by single spaces"
 abbrev pub spaced : List ℕ → List ℕ
@@ -51,17 +72,17 @@ spaced l = 32 ∷ l
 
 -- "`-` for one that doesn't matter"
 abbrev pub optional : OptInt → List ℕ
-optional (GivenInt z) = spaced (decimal (toNat z))
+optional (GivenInt z) = spaced (signed z)
 optional NoInt = spaced (45 ∷ [])
 
 -- "width, height, pel, levels, gpu, full, rc, lean, down, up"
 abbrev pub sizesText : Description → List ℕ
 sizesText d =
-    spaced (decimal (toNat (d .width)))
-    ++ spaced (decimal (toNat (d .height)))
-    ++ spaced (decimal (toNat (d .pel)))
-    ++ spaced (decimal (toNat (d .levels)))
-    ++ spaced (decimal (toNat (d .gpu)))
+    spaced (signed (d .width))
+    ++ spaced (signed (d .height))
+    ++ spaced (signed (d .pel))
+    ++ spaced (signed (d .levels))
+    ++ spaced (signed (d .gpu))
 
 abbrev pub flagsText : Description → List ℕ
 flagsText d = spaced (decimal (bit (d .full))) ++ spaced (decimal (bit (d .rc))) ++ spaced (decimal (bit (d .lean)))
@@ -79,14 +100,18 @@ wordLine l v =
     l ++ spaced (decimal (a .no)) ++ cond (eqb (a .no) 0) (described (a .value)) []
 
 -- "Any other line prints `-`. Each printed line ends in a newline."
-abbrev pub lineOf : List ℕ → Hex → List ℕ
-lineOf l (Word v) = wordLine l v ++ (10 ∷ [])
+abbrev pub lineOf : List ℕ → Number → List ℕ
+lineOf l (Value v) = wordLine l v ++ (10 ∷ [])
 lineOf l Other = 45 ∷ 10 ∷ []
 
 abbrev pub lineOut : List ℕ → List ℕ
 lineOut l = lineOf l (hexRead l)
 
 -- ---- a line that is being made
+-- the room of a line: each line that is made is shorter
+abbrev pub room : ℕ
+room = 256
+
 abbrev pub shown : Line → List ℕ
 shown l = take (l .len) (l .bytes)
 
@@ -94,24 +119,6 @@ shown l = take (l .len) (l .bytes)
 pub record Appended (l r : Line) (t : List ℕ) (k : ℕ) : Type 0 where
   pub text : shown r ≡ shown l ++ t
   pub room : r .len ≤ l .len + k
-
--- what a number that is printed is below: five digits
-abbrev pub mostPrinted : ℕ
-mostPrinted = 100000
-
-abbrev pub optionalNat : OptInt → ℕ
-optionalNat (GivenInt z) = toNat z
-optionalNat NoInt = 0
-
--- the numbers of a description have five digits at most
-pub record Printable (d : Description) : Type 0 where
-  pub width : toNat (d .width) < mostPrinted
-  pub height : toNat (d .height) < mostPrinted
-  pub pel : toNat (d .pel) < mostPrinted
-  pub levels : toNat (d .levels) < mostPrinted
-  pub gpu : toNat (d .gpu) < mostPrinted
-  pub down : optionalNat (d .down) < mostPrinted
-  pub up : optionalNat (d .up) < mostPrinted
 
 -- ---- lines of the input
 -- the line of s that starts at `from` ends at e: there is no newline in between, and one at e unless that is the end. "A last line may lack its newline."

@@ -1,20 +1,20 @@
 // Lines of text about words: a line in, the line that document 01 prints for it out.
-// First hexadecimal in; then `Line`, text that is being made, with what is put after it; then `line_out`, a whole line; last `line_end`, where a line of the input ends.
+// First digits in; then `Line`, text that is being made, with what is put after it; then `line_out`, a whole line; last `line_end`, where a line of the input ends.
 ghost use mathlib.Core.Path.{_≡_};
 ghost use mathlib.Core.Bool.{true};
 ghost use mathlib.Core.List.{[], _∷_};
-ghost use Prim.Native.Nat.{_+_, _≤_, _<_, min};
+ghost use Prim.Native.Nat.{_+_, _*_, _^_, _≤_, _<_, min};
 ghost use lib.ListN.{length};
-ghost use Rattle.settings.specs.Numbers.{bit, toNat};
-ghost use Rattle.lines.specs.Text.{isHex, hexOf, hexRead, decimal, spaced, optional, optionalNat, described, wordLine, sizesText, flagsText, filtersText, digitAt, lineOut, shown, Appended, mostPrinted, Printable, LineEnd};
+ghost use Rattle.settings.specs.Numbers.{bit};
+ghost use Rattle.lines.specs.Text.{isHex, hexOf, isDigit, allDigits, numberOf, hexRead, digits, decimal, magnitude, signed, spaced, hexDigit, hexDigits, hexText, optional, described, wordLine, sizesText, flagsText, filtersText, lineOut, room, shown, Appended, LineEnd};
 use settings::numbers::natural;
 use settings::super_opts::OptInt;
 use settings::word::Description;
 use settings::word::Told;
 use settings::word::read_word;
 
-pub enum Hex {
-    Word(u64),
+pub enum Number {
+    Value(u64),
     Other,
 }
 
@@ -24,7 +24,7 @@ fn is_hex(b: u8) -> bool
     ((48 <= b) & (b <= 57)) | ((97 <= b) & (b <= 102))
 }
 
-fn hex_of(b: u8) -> u64
+pub fn hex_of(b: u8) -> u64
     requires { ⌜ isHex b ≡ true ⌝ }
     ensures { λ r. ⌜ (r ≡ hexOf b) × (r < 16) ⌝ }
 {
@@ -34,42 +34,92 @@ fn hex_of(b: u8) -> u64
     (b - 87) as u64
 }
 
+fn is_digit(b: u8, base: u64) -> bool
+    ensures { λ r. ⌜ r ≡ isDigit base b ⌝ }
+{
+    if !is_hex(b) {
+        return false;
+    }
+    hex_of(b) < base
+}
+
+pub fn all_digits(line: &[u8], base: u64) -> bool
+    ensures { λ r. ⌜ r ≡ allDigits base (now (line .entry)) ⌝ }
+{
+    for i in 0..line.len() {
+        if !is_digit(line[i], base) {
+            return false;
+        }
+    }
+    true
+}
+
+// The number that digits make.
+pub fn number_of(line: &[u8], base: u64) -> u64
+    requires { ⌜ (base ≤ 16) × (length (now line) ≤ 16) × (allDigits base (now line) ≡ true) ⌝ }
+    ensures { λ r. ⌜ r ≡ numberOf base 0 (now (line .entry)) ⌝ }
+{
+    let mut v: u64 = 0;
+    for i in 0..line.len() {
+        v = base * v + hex_of(line[i]);
+    }
+    v
+}
+
 // The word that a line of 16 digits is.
-pub fn hex_word(line: &[u8]) -> Hex
+pub fn hex_word(line: &[u8]) -> Number
     ensures { λ r. ⌜ r ≡ hexRead (now (line .entry)) ⌝ }
 {
     if line.len() != 16 {
-        return Hex::Other;
+        return Number::Other;
     }
-    let mut v: u64 = 0;
-    for i in 0..16usize {
-        let b = line[i];
-        if !is_hex(b) {
-            return Hex::Other;
-        }
-        v = 16 * v + hex_of(b);
+    if !all_digits(line, 16) {
+        return Number::Other;
     }
-    Hex::Word(v)
+    Number::Value(number_of(line, 16))
 }
+
+fn hex_digit(d: u64) -> u8
+    requires { ⌜ d < 16 ⌝ }
+    ensures { λ r. ⌜ r ≡ hexDigit d ⌝ }
+{
+    if d < 10 {
+        return (48 + d) as u8;
+    }
+    (87 + d) as u8
+}
+
+// How far an integer is from 0.
+fn magnitude(z: i32) -> u64
+    ensures { λ r. ⌜ r ≡ magnitude z ⌝ }
+{
+    if z < 0 {
+        return natural(-1 - z) as u64 + 1;
+    }
+    natural(z) as u64
+}
+
+// The room of a line: each line that is made is shorter.
+pub const ROOM: usize = 256;
 
 // Text that is being made: the first `len` bytes.
 pub struct Line {
-    pub bytes: [u8; 96],
+    pub bytes: [u8; ROOM],
     pub len: usize,
 }
 
 impl Line {
-    fn new() -> Line
+    pub fn new() -> Line
         ensures { λ r. ⌜ r .len ≡ 0 ⌝ }
     {
         Line {
-            bytes: [0; 96],
+            bytes: [0; ROOM],
             len: 0,
         }
     }
 
-    fn with_byte(self, b: u8) -> Line
-        requires { ⌜ self .len < 96 ⌝ }
+    pub fn with_byte(self, b: u8) -> Line
+        requires { ⌜ self .len < room ⌝ }
         ensures { λ r. ⌜ Appended self r (b ∷ []) 1 ⌝ }
     {
         let at = self.len;
@@ -79,51 +129,77 @@ impl Line {
         next
     }
 
-    fn with_digit(self, n: u32, place: u32) -> Line
-        requires { ⌜ (self .len < 96) × (1 ≤ place) ⌝ }
-        ensures { λ r. ⌜ Appended self r (digitAt n place) 1 ⌝ }
+    // The digits of n, `most` of them at most.
+    fn with_digits(self, n: u64, most: usize) -> Line
+        requires { ⌜ (self .len + most ≤ room) × (1 ≤ most) × (n < 10 ^ most) ⌝ }
+        ensures { λ r. ⌜ Appended self r (digits most n) most ⌝ }
     {
-        if n < place {
-            return self;
+        if n < 10 {
+            return self.with_byte((48 + n) as u8);
         }
-        self.with_byte((48 + n / place % 10) as u8)
-    }
-
-    fn with_decimal(self, n: u32) -> Line
-        requires { ⌜ (self .len + 5 ≤ 96) × (n < mostPrinted) ⌝ }
-        ensures { λ r. ⌜ Appended self r (decimal n) 5 ⌝ }
-    {
-        self.with_digit(n, 10000)
-            .with_digit(n, 1000)
-            .with_digit(n, 100)
-            .with_digit(n, 10)
+        self.with_digits(n / 10, most - 1)
             .with_byte((48 + n % 10) as u8)
     }
 
-    fn with_number(self, n: u32) -> Line
-        requires { ⌜ (self .len + 6 ≤ 96) × (n < mostPrinted) ⌝ }
-        ensures { λ r. ⌜ Appended self r (spaced (decimal n)) 6 ⌝ }
+    pub fn with_decimal(self, n: u64) -> Line
+        requires { ⌜ self .len + 20 ≤ room ⌝ }
+        ensures { λ r. ⌜ Appended self r (decimal n) 20 ⌝ }
+    {
+        self.with_digits(n, 20)
+    }
+
+    pub fn with_number(self, n: u64) -> Line
+        requires { ⌜ self .len + 21 ≤ room ⌝ }
+        ensures { λ r. ⌜ Appended self r (spaced (decimal n)) 21 ⌝ }
     {
         self.with_byte(b' ').with_decimal(n)
     }
 
-    fn with_int(self, z: i32) -> Line
-        requires { ⌜ (self .len + 6 ≤ 96) × (toNat z < mostPrinted) ⌝ }
-        ensures { λ r. ⌜ Appended self r (spaced (decimal (toNat z))) 6 ⌝ }
+    pub fn with_int(self, z: i32) -> Line
+        requires { ⌜ self .len + 22 ≤ room ⌝ }
+        ensures { λ r. ⌜ Appended self r (spaced (signed z)) 22 ⌝ }
     {
-        self.with_number(natural(z))
+        if z < 0 {
+            return self.with_byte(b' ')
+                .with_byte(b'-')
+                .with_decimal(magnitude(z));
+        }
+        self.with_number(magnitude(z))
     }
 
-    fn with_bool(self, b: bool) -> Line
-        requires { ⌜ self .len + 6 ≤ 96 ⌝ }
-        ensures { λ r. ⌜ Appended self r (spaced (decimal (bit b))) 6 ⌝ }
+    pub fn with_bool(self, b: bool) -> Line
+        requires { ⌜ self .len + 21 ≤ room ⌝ }
+        ensures { λ r. ⌜ Appended self r (spaced (decimal (bit b))) 21 ⌝ }
     {
-        self.with_number(b as u32)
+        self.with_number(b as u64)
+    }
+
+    // The last `count` hexadecimal digits of n.
+    pub fn with_hex(self, n: u64, count: usize) -> Line
+        requires { ⌜ self .len + count ≤ room ⌝ }
+        ensures { λ r. ⌜ Appended self r (hexDigits count n) count ⌝ }
+    {
+        if count == 0 {
+            return self;
+        }
+        self.with_hex(n / 16, count - 1)
+            .with_byte(hex_digit(n % 16))
+    }
+
+    pub fn with_hex_bytes(self, bytes: &[u8]) -> Line
+        requires { ⌜ self .len + 2 * length (now bytes) ≤ room ⌝ }
+        ensures { λ r. ⌜ Appended self r (hexText (now (bytes .entry))) (2 * length (now (bytes .entry))) ⌝ }
+    {
+        let mut next = self;
+        for i in 0..bytes.len() {
+            next = next.with_hex(bytes[i] as u64, 2);
+        }
+        next
     }
 
     fn with_optional(self, o: OptInt) -> Line
-        requires { ⌜ (self .len + 6 ≤ 96) × (optionalNat o < mostPrinted) ⌝ }
-        ensures { λ r. ⌜ Appended self r (optional o) 6 ⌝ }
+        requires { ⌜ self .len + 22 ≤ room ⌝ }
+        ensures { λ r. ⌜ Appended self r (optional o) 22 ⌝ }
     {
         match o {
             OptInt::Given(z) => self.with_int(z),
@@ -132,8 +208,8 @@ impl Line {
     }
 
     fn with_sizes(self, d: Description) -> Line
-        requires { ⌜ (self .len + 30 ≤ 96) × Printable d ⌝ }
-        ensures { λ r. ⌜ Appended self r (sizesText d) 30 ⌝ }
+        requires { ⌜ self .len + 110 ≤ room ⌝ }
+        ensures { λ r. ⌜ Appended self r (sizesText d) 110 ⌝ }
     {
         self.with_int(d.width)
             .with_int(d.height)
@@ -143,15 +219,15 @@ impl Line {
     }
 
     fn with_flags(self, d: Description) -> Line
-        requires { ⌜ self .len + 18 ≤ 96 ⌝ }
-        ensures { λ r. ⌜ Appended self r (flagsText d) 18 ⌝ }
+        requires { ⌜ self .len + 63 ≤ room ⌝ }
+        ensures { λ r. ⌜ Appended self r (flagsText d) 63 ⌝ }
     {
         self.with_bool(d.full).with_bool(d.rc).with_bool(d.lean)
     }
 
     fn with_filters(self, d: Description) -> Line
-        requires { ⌜ (self .len + 12 ≤ 96) × Printable d ⌝ }
-        ensures { λ r. ⌜ Appended self r (filtersText d) 12 ⌝ }
+        requires { ⌜ self .len + 44 ≤ room ⌝ }
+        ensures { λ r. ⌜ Appended self r (filtersText d) 44 ⌝ }
     {
         let down = d.down;
         let up = d.up;
@@ -159,14 +235,14 @@ impl Line {
     }
 
     fn with_description(self, d: Description) -> Line
-        requires { ⌜ (self .len + 60 ≤ 96) × Printable d ⌝ }
-        ensures { λ r. ⌜ Appended self r (described d) 60 ⌝ }
+        requires { ⌜ self .len + 217 ≤ room ⌝ }
+        ensures { λ r. ⌜ Appended self r (described d) 217 ⌝ }
     {
         self.with_sizes(d).with_flags(d).with_filters(d)
     }
 
     fn with_bytes(self, line: &[u8]) -> Line
-        requires { ⌜ (self .len ≡ 0) × (length (now line) ≤ 96) ⌝ }
+        requires { ⌜ (self .len ≡ 0) × (length (now line) ≤ room) ⌝ }
         ensures { λ r. ⌜ Appended self r (now (line .entry)) (length (now (line .entry))) ⌝ }
     {
         let mut next = self;
@@ -178,23 +254,23 @@ impl Line {
 
     fn with_word(self, line: &[u8], word: u64) -> Line
         requires { ⌜ (self .len ≡ 0) × (length (now line) ≡ 16) ⌝ }
-        ensures { λ r. ⌜ Appended self r (wordLine (now (line .entry)) word) 82 ⌝ }
+        ensures { λ r. ⌜ Appended self r (wordLine (now (line .entry)) word) 254 ⌝ }
     {
         let spelled = self.with_bytes(line);
         match read_word(word) {
             Told::Tells(d) => spelled.with_number(0).with_description(d),
-            Told::Refused(f) => spelled.with_number(f.number()),
+            Told::Refused(f) => spelled.with_number(f.number() as u64),
         }
     }
 }
 
 // The line that is printed for a line of the input.
 pub fn line_out(line: &[u8]) -> Line
-    ensures { λ r. ⌜ (shown r ≡ lineOut (now (line .entry))) × (r .len ≤ 96) ⌝ }
+    ensures { λ r. ⌜ (shown r ≡ lineOut (now (line .entry))) × (r .len ≤ room) ⌝ }
 {
     match hex_word(line) {
-        Hex::Word(v) => Line::new().with_word(line, v).with_byte(b'\n'),
-        Hex::Other => Line::new().with_byte(b'-').with_byte(b'\n'),
+        Number::Value(v) => Line::new().with_word(line, v).with_byte(b'\n'),
+        Number::Other => Line::new().with_byte(b'-').with_byte(b'\n'),
     }
 }
 

@@ -4,7 +4,7 @@ use native.Mathlib.Omega.{arith}
 use borrow.Author.Needs.{needs}
 use Rattle.lines.specs.Text.{lineOf}
 use Rattle.lines.proofs.Lines.{_after_, empty}
-use Rattle.lines.proofs.Printed.{word-length}
+use Rattle.lines.proofs.Lines.{word-length}
 use Rattle.lines.proofs.text.line_out.Statement.{statement}
 use Rattle.lines.proofs.text.line_out.Tie as tie
 

@@ -1,19 +1,14 @@
 -- `with_bool` meets its contract. Assumes nothing.
 use mathlib.Core.Path.{_≡_, refl, ap}
 use mathlib.Core.Bool.{Bool, true, false}
-use Prim.Native.Nat.{ℕ, _<_}
-use native.Mathlib.Omega.{arith}
+use Prim.Native.Nat.{ℕ}
 use mir.Val.{boolByte}
 use borrow.Author.Needs.{needs}
 use Rattle.settings.specs.Numbers.{bit}
-use Rattle.lines.specs.Text.{decimal, spaced, mostPrinted}
+use Rattle.lines.specs.Text.{decimal, spaced}
 use Rattle.lines.proofs.Lines.{said}
 use Rattle.lines.proofs.text.Line.with_bool.Statement.{statement}
 use Rattle.lines.proofs.text.Line.with_bool.Tie as tie
-
-below : (b : Bool) → boolByte b < mostPrinted
-below true = omega arith
-below false = omega arith
 
 is-bit : (b : Bool) → boolByte b ≡ bit b
 is-bit true = refl
@@ -23,7 +18,7 @@ cast-with-number : tie.Need-cast-with-number
 cast-with-number c = search needs
 
 with-number-requires : tie.Need-with-number-requires
-with-number-requires c κs = (c .pre, below (c .args .b))
+with-number-requires c κs = c .pre
 
 returns : tie.Need-returns
 returns c = said (ap (λ (n : ℕ). spaced (decimal n)) (is-bit (c .before .args .b))) (c .with-number .ensures)

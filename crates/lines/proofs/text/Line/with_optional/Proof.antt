@@ -4,7 +4,6 @@ use native.Mathlib.Omega.{arith}
 use borrow.Author.Needs.{needs}
 use Rattle.lines.proofs.Lines.{wider, int-said, _after_, said}
 use Rattle.lines.specs.Text.{optional}
-use Rattle.settings.proofs.Integers.{same}
 use Rattle.lines.proofs.text.Line.with_optional.Statement.{statement}
 use Rattle.lines.proofs.text.Line.with_optional.Tie as tie
 
@@ -12,7 +11,7 @@ enum-known-o : tie.Need-enum-known-o
 enum-known-o c = search needs
 
 with-int-requires : tie.Need-with-int-requires
-with-int-requires c κs = let a = c .before .before .before in rw (same (c .before .o .given .0 .0) (search needs)) (a .pre .0, rw (c .before .o .given .1) at (a .pre .1))
+with-int-requires c κs = search needs
 
 enum-told : tie.Need-enum-told
 enum-told c = search needs
@@ -27,7 +26,7 @@ returns : tie.Need-returns
 returns c = let o = c .before .before in said (ap optional (sym (o .o .given .1))) (int-said (o .o .given .0 .0) (search needs) (c .with-int .ensures))
 
 returns-2 : tie.Need-returns-2
-returns-2 c = said (ap optional (sym (c .before .before .enum-told .given .1))) (wider 6 (omega arith) (c .with-byte2 .ensures after c .before .with-byte .ensures))
+returns-2 c = said (ap optional (sym (c .before .before .enum-told .given .1))) (wider 22 (omega arith) (c .with-byte2 .ensures after c .before .with-byte .ensures))
 
 pub with-optional-spec : {M : Type 1} → statement M
 with-optional-spec =

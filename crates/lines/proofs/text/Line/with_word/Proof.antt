@@ -1,5 +1,5 @@
 -- `with_word` meets its contract. Assumes nothing.
-use mathlib.Core.Path.{_≡_, sym, ap, _∙_, subst}
+use mathlib.Core.Path.{_≡_, sym, ap, _∙_}
 use mathlib.Core.Bool.{cond}
 use mathlib.Core.List.{List, [], _++_, append-nil}
 use Prim.Native.Nat.{ℕ}
@@ -9,10 +9,9 @@ use borrow.Author.Needs.{needs}
 use Rattle.settings.specs.declared.refusal.Refusal.{Refusal}
 use Rattle.settings.specs.declared.word.Description.{Description}
 use Rattle.settings.specs.Answers.{Answer, answer, told, number, noDescription}
-use Rattle.lines.specs.Text.{decimal, spaced, described, wordLine, Printable}
+use Rattle.lines.specs.Text.{decimal, spaced, described, wordLine}
 use Rattle.settings.proofs.Known.{number-some}
 use Rattle.lines.proofs.Lines.{_after_, said, wider}
-use Rattle.lines.proofs.Printed.{printable, told-is, refused-small}
 use Rattle.lines.proofs.text.Line.with_word.Statement.{statement}
 use Rattle.lines.proofs.text.Line.with_word.Tie as tie
 
@@ -36,11 +35,7 @@ with-number-requires : tie.Need-with-number-requires
 with-number-requires c κs = search needs
 
 with-description-requires : tie.Need-with-description-requires
-with-description-requires c κs =
-    let t = c .before .before .before .before in
-    let v = t .before .before .before .args .word in
-    let d = c .before .before .d .given in
-    (omega (arith, c .with-number .ensures .room, t .before .with-bytes .ensures .room), subst Printable (sym (told-is v (d .0 .0) (sym (ap told (d .1)) ∙ t .read-word .ensures))) (printable v))
+with-description-requires c κs = search needs
 
 enum-known-f : tie.Need-enum-known-f
 enum-known-f c = search needs
@@ -48,12 +43,11 @@ enum-known-f c = search needs
 number-requires : tie.Need-number-requires
 number-requires c κs = tt
 
+cast-with-number : tie.Need-cast-with-number
+cast-with-number c = search needs
+
 with-number-requires-2 : tie.Need-with-number-requires-2
-with-number-requires-2 c κs =
-    let t = c .before .before .before .before in
-    let v = t .before .before .before .args .word in
-    let f = c .before .before .f .given in
-    omega (arith, t .before .with-bytes .ensures .room, c .number .ensures, refused-small v (f .0 .0) (sym (ap told (f .1)) ∙ t .read-word .ensures))
+with-number-requires-2 c κs = search needs
 
 returns : tie.Need-returns
 unfolding wordLine
@@ -61,7 +55,7 @@ returns c =
     let t = c .before .before .before .before .before in
     let line = t .before .before .before .args .line .now in
     let d = c .before .before .before .d .given in
-    said (ap (text line) (sym (ap told (d .1)) ∙ t .read-word .ensures)) (wider 82 (omega arith) (c .with-description .ensures after c .before .with-number .ensures after t .before .with-bytes .ensures))
+    said (ap (text line) (sym (ap told (d .1)) ∙ t .read-word .ensures)) (wider 254 (omega arith) (c .with-description .ensures after c .before .with-number .ensures after t .before .with-bytes .ensures))
 
 returns-2 : tie.Need-returns-2
 unfolding wordLine
@@ -69,7 +63,7 @@ returns-2 c =
     let t = c .before .before .before .before .before in
     let line = t .before .before .before .args .line .now in
     let f = c .before .before .before .f .given in
-    said (closed line (f .0 .0) ∙ ap (text line) (sym (ap told (f .1)) ∙ t .read-word .ensures)) (wider 82 (omega arith) (said (ap (λ (n : ℕ). spaced (decimal n)) (c .before .number .ensures)) (c .with-number2 .ensures) after t .before .with-bytes .ensures))
+    said (closed line (f .0 .0) ∙ ap (text line) (sym (ap told (f .1)) ∙ t .read-word .ensures)) (wider 254 (omega arith) (said (ap (λ (n : ℕ). spaced (decimal n)) (c .before .number .ensures)) (c .with-number2 .ensures) after t .before .with-bytes .ensures))
 
 pub with-word-spec : {M : Type 1} → statement M
 with-word-spec =
@@ -82,6 +76,7 @@ with-word-spec =
     with-description-requires
     enum-known-f
     number-requires
+    cast-with-number
     with-number-requires-2
     returns
     returns-2)
