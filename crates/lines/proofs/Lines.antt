@@ -11,10 +11,11 @@ use lib.Seq.{drop-cons}
 use lib.Dec.{leb, ltb, eqb}
 use lib.IntN.{ℤ}
 use mir.Syntax.{w32}
-use mir.Val.{SFits, ofZ, toZ}
+use mir.Val.{SFits, ofZ, toZ, boolByte}
 use borrow.Author.Tests.{lt-ltb, le-ltb, leb-true, leb-false, eqb-true}
 use Rattle.lines.specs.declared.text.Line.{Line}
 use Rattle.lines.specs.declared.text.Number.the-variants.{Value, Other}
+use Rattle.settings.specs.Numbers.{bit}
 use Rattle.lines.specs.Text.{isHex, hexOf, isDigit, allDigits, numberOf, hexRead, digits, decimal, signed, spaced, hexDigit, hexDigits, hexText, shown, Appended, LineEnd}
 use Rattle.settings.proofs.Tests.{and-left, and-right}
 use Rattle.settings.proofs.Integers.{same}
@@ -39,6 +40,15 @@ wider m le p = record { text = p .text; room = omega (arith, p .room) }
 -- the text of an integer that was handed on by its bits
 pub int-said : {l r : Line} {k : ℕ} (z : ℤ) → SFits w32 z → Appended l r (spaced (signed (toZ w32 (ofZ w32 z)))) k → Appended l r (spaced (signed z)) k
 int-said z fit = said (ap (λ (y : ℤ). spaced (signed y)) (same z fit))
+
+-- a bool as a number
+pub is-bit : (b : Bool) → boolByte b ≡ bit b
+is-bit true = refl
+is-bit false = refl
+
+pub bit-small : (b : Bool) → boolByte b ≤ 1
+bit-small true = omega arith
+bit-small false = omega arith
 
 -- ---- decimal digits, the last one apart
 pub few : (k n : ℕ) → 1 ≤ k → n < 10 → digits k n ≡ (48 + n) ∷ []

@@ -1,18 +1,11 @@
 -- `with_bool` meets its contract. Assumes nothing.
-use mathlib.Core.Path.{_≡_, refl, ap}
-use mathlib.Core.Bool.{Bool, true, false}
+use mathlib.Core.Path.{ap}
 use Prim.Native.Nat.{ℕ}
-use mir.Val.{boolByte}
 use borrow.Author.Needs.{needs}
-use Rattle.settings.specs.Numbers.{bit}
 use Rattle.lines.specs.Text.{decimal, spaced}
-use Rattle.lines.proofs.Lines.{said}
+use Rattle.lines.proofs.Lines.{said, is-bit}
 use Rattle.lines.proofs.text.Line.with_bool.Statement.{statement}
 use Rattle.lines.proofs.text.Line.with_bool.Tie as tie
-
-is-bit : (b : Bool) → boolByte b ≡ bit b
-is-bit true = refl
-is-bit false = refl
 
 cast-with-number : tie.Need-cast-with-number
 cast-with-number c = search needs
