@@ -84,14 +84,14 @@ sizesText d =
     ++ spaced (signed (d .levels))
     ++ spaced (signed (d .gpu))
 
-abbrev pub flagsText : Description → List ℕ
-flagsText d = spaced (decimal (bit (d .full))) ++ spaced (decimal (bit (d .rc))) ++ spaced (decimal (bit (d .lean)))
+abbrev pub flagsText : Bool → Bool → Bool → List ℕ
+flagsText full rc lean = spaced (decimal (bit full)) ++ spaced (decimal (bit rc)) ++ spaced (decimal (bit lean))
 
 abbrev pub filtersText : Description → List ℕ
 filtersText d = optional (d .down) ++ optional (d .up)
 
 unfoldable pub described : Description → List ℕ
-described d = sizesText d ++ flagsText d ++ filtersText d
+described d = sizesText d ++ flagsText (d .full) (d .rc) (d .lean) ++ filtersText d
 
 -- "prints, parted by single spaces, itself and the number, and after 0: .."
 unfoldable pub wordLine : List ℕ → ℕ → List ℕ

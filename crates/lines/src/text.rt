@@ -218,11 +218,11 @@ impl Line {
             .with_int(d.gpu)
     }
 
-    fn with_flags(self, d: Description) -> Line
+    pub fn with_flags(self, full: bool, rc: bool, lean: bool) -> Line
         requires { ⌜ self .len + 63 ≤ room ⌝ }
-        ensures { λ r. ⌜ Appended self r (flagsText d) 63 ⌝ }
+        ensures { λ r. ⌜ Appended self r (flagsText full rc lean) 63 ⌝ }
     {
-        self.with_bool(d.full).with_bool(d.rc).with_bool(d.lean)
+        self.with_bool(full).with_bool(rc).with_bool(lean)
     }
 
     fn with_filters(self, d: Description) -> Line
@@ -238,7 +238,9 @@ impl Line {
         requires { ⌜ self .len + 217 ≤ room ⌝ }
         ensures { λ r. ⌜ Appended self r (described d) 217 ⌝ }
     {
-        self.with_sizes(d).with_flags(d).with_filters(d)
+        self.with_sizes(d)
+            .with_flags(d.full, d.rc, d.lean)
+            .with_filters(d)
     }
 
     fn with_bytes(self, line: &[u8]) -> Line
