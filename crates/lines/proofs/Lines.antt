@@ -8,15 +8,15 @@ use native.Mathlib.Numerals.{add-one, sub-one}
 use native.Mathlib.Omega.{arith}
 use lib.ListN.{length, getD, drop, drop-of-length-le}
 use lib.Seq.{drop-cons}
-use lib.Dec.{leb, ltb, eqb}
+use lib.Dec.{ltb, eqb}
 use lib.IntN.{ℤ}
 use mir.Syntax.{w32}
 use mir.Val.{SFits, ofZ, toZ, boolByte}
-use borrow.Author.Tests.{lt-ltb, le-ltb, leb-true, leb-false, eqb-true}
+use borrow.Author.Tests.{lt-ltb, le-ltb, eqb-true}
 use Rattle.lines.specs.declared.text.Line.{Line}
 use Rattle.lines.specs.declared.text.Number.the-variants.{Value, Other}
 use Rattle.settings.specs.Numbers.{bit}
-use Rattle.lines.specs.Text.{isHex, hexOf, isDigit, allDigits, numberOf, hexRead, digits, decimal, signed, spaced, hexDigit, hexDigits, hexText, shown, Appended, LineEnd}
+use Rattle.lines.specs.Text.{isHex, hexOf, isDigit, allDigits, numberOf, hexRead, digits, decimal, signed, spaced, hexDigit, hexDigits, hexText, shown, Appended}
 use Rattle.settings.proofs.Tests.{and-left, and-right}
 use Rattle.settings.proofs.Integers.{same}
 
@@ -141,15 +141,3 @@ word-length l v e = go (eqb (length l) 16) refl
     go : (t : Bool) → eqb (length l) 16 ≡ t → length l ≡ 16
     go true h = eqb-true (length l) 16 h
     go false h = let z : Value v ≡ Other = e ∙ rw h in let n : _≡_ {A = ℕ} 0 1 = cc in omega arith
-
--- ---- a line has one end
-ends-first : {s : List ℕ} {from e f : ℕ} → LineEnd s from e → LineEnd s from f → e < f → ⊥
-ends-first {s} {from} {e} p q lt = q .before e lt (p .start) (p .newline (omega (arith, q .end)))
-
-pub end-known : {s : List ℕ} {from e f : ℕ} → LineEnd s from e → LineEnd s from f → e ≡ f
-end-known {s} {from} {e} {f} p q = go (leb f e) (leb e f) refl refl
-  where
-    go : (a b : Bool) → leb f e ≡ a → leb e f ≡ b → e ≡ f
-    go true true x y = omega (arith, leb-true f e x, leb-true e f y)
-    go true false x y = absurd (ends-first q p (leb-false e f y))
-    go false b x y = absurd (ends-first p q (leb-false f e x))

@@ -2,8 +2,8 @@
 use contract.Lifetimes.{Lfts}
 use Rattle.settings.proofs.Outcome.{OneOutcome, settled, itself}
 use Rattle.lines.proofs.text.hex_word.Reads as hex-word-reads
-use Rattle.lines.proofs.text.line_end.Reads as line-end-reads
-use Rattle.lines.proofs.Lines.{end-known}
+use Rattle.lines.proofs.parting.line_end.Reads as line-end-reads
+use Rattle.lines.proofs.Parted.{end-known}
 
 pub hex-word-unique : (κs : Lfts 1) → OneOutcome (hex-word-reads.Post κs) (λ r e. r)
 hex-word-unique κs x r s e f p q = settled itself p q

@@ -1,40 +1,17 @@
--- A line's fields, "parted by single spaces", and the settings that fields are.
-use Prim.Native.Nat.{ℕ, zero, suc, _+_, _-_, _^_}
+-- The settings that fields of a line are: an integer, a flag, or a lone `-`.
+use Prim.Native.Nat.{ℕ, _-_, _^_}
 use mathlib.Core.Bool.{Bool, true, false, cond, _&&_, _||_}
 use mathlib.Core.List.{List, [], _∷_}
 use lib.Dec.{leb, eqb}
 use lib.IntN.{pos, negℤ}
-use lib.ListN.{length, getD, take, drop}
+use lib.ListN.{length, getD}
 use Rattle.settings.specs.declared.super_opts.OptInt.{OptInt}
 use Rattle.settings.specs.declared.super_opts.OptInt.the-variants.{Given as GivenInt, Absent as NoInt}
 use Rattle.settings.specs.declared.super_opts.OptBool.{OptBool}
 use Rattle.settings.specs.declared.super_opts.OptBool.the-variants.{Given as GivenBool, Absent as NoBool}
-use Rattle.settings.specs.Numbers.{bit}
 use Rattle.lines.specs.Text.{allDigits, numberOf}
 
--- ---- fields
--- how many bytes stand before the first b; all of them where there is none
-unfoldable pub before : ℕ → List ℕ → ℕ
-before b [] = 0
-before b (a ∷ l) = cond (eqb a b) 0 (suc (before b l))
-
--- how often b stands there
-unfoldable pub times : ℕ → List ℕ → ℕ
-times b [] = 0
-times b (a ∷ l) = bit (eqb a b) + times b l
-
--- what stands before the first space, and what after it
-abbrev pub firstField : List ℕ → List ℕ
-firstField l = take (before 32 l) l
-
-abbrev pub otherFields : List ℕ → List ℕ
-otherFields l = drop (suc (before 32 l)) l
-
-unfoldable pub fieldAt : List ℕ → ℕ → List ℕ
-fieldAt l zero = firstField l
-fieldAt l (suc k) = fieldAt (otherFields l) k
-
--- ---- settings: an integer is an optional minus sign and 1 to 10 digits, and fits i32
+-- ---- an integer is an optional minus sign and 1 to 10 digits, and fits i32
 -- digits whose number is at most m
 abbrev pub isDecimal : ℕ → List ℕ → Bool
 isDecimal m l = leb 1 (length l) && leb (length l) 10 && allDigits 10 l && leb (numberOf 10 0 l) m

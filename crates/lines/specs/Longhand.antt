@@ -10,7 +10,8 @@ use Rattle.settings.specs.declared.super_opts.SuperOpts.{SuperOpts}
 use Rattle.settings.specs.Check.{intOr}
 use Rattle.settings.specs.Answers.{packAnswer}
 use Rattle.lines.specs.Text.{hexOf, allDigits, signed, spaced, flagsText, hexDigits}
-use Rattle.lines.specs.Fields.{times, fieldAt, intOf, isGiven, isSetting, isFlag, flagOf}
+use Rattle.lines.specs.Parting.{times, fieldAt}
+use Rattle.lines.specs.Fields.{intOf, isGiven, isSetting, isFlag, flagOf}
 
 -- ---- in: a record, two digits for each byte
 abbrev pub isRecord : List ℕ → Bool

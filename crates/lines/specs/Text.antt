@@ -1,11 +1,11 @@
 -- Document 01, "Words read and compared": the line that the program prints for a line.
-use Prim.Native.Nat.{ℕ, zero, suc, _+_, _*_, _-_, _/_, _%_, _≤_, _<_}
+use Prim.Native.Nat.{ℕ, zero, suc, _+_, _*_, _-_, _/_, _%_, _≤_}
 use mathlib.Core.Path.{_≡_}
 use mathlib.Core.Bool.{Bool, true, cond, _&&_, _||_}
 use mathlib.Core.List.{List, [], _∷_, _++_}
 use lib.Dec.{leb, ltb, eqb}
 use lib.IntN.{ℤ, pos, negsuc}
-use lib.ListN.{length, getD, take}
+use lib.ListN.{length, take}
 use Rattle.settings.specs.declared.super_opts.OptInt.{OptInt}
 use Rattle.settings.specs.declared.super_opts.OptInt.the-variants.{Given as GivenInt, Absent as NoInt}
 use Rattle.settings.specs.declared.word.Description.{Description}
@@ -119,11 +119,3 @@ shown l = take (l .len) (l .bytes)
 pub record Appended (l r : Line) (t : List ℕ) (k : ℕ) : Type 0 where
   pub text : shown r ≡ shown l ++ t
   pub room : r .len ≤ l .len + k
-
--- ---- lines of the input
--- the line of s that starts at `from` ends at e: there is no newline in between, and one at e unless that is the end. "A last line may lack its newline."
-pub record LineEnd (s : List ℕ) (from e : ℕ) : Type 0 where
-  pub start : from ≤ e
-  pub end : e ≤ length s
-  pub before : (k : ℕ) → k < e → from ≤ k → getD s k 0 ≡ 10 → ⊥
-  pub newline : e < length s → getD s e 0 ≡ 10

@@ -1,68 +1,14 @@
-// Fields of a line, parted by single spaces, and the settings that they are.
-// First where a byte stands and how often; then a line's fields; then a field as an integer, a flag, or a lone `-`.
+// A field as a setting: an integer, a flag, or a lone `-`.
 ghost use mathlib.Core.Path.{_≡_};
 ghost use mathlib.Core.Bool.{true};
 ghost use Prim.Native.Nat.{_≤_, _^_};
 ghost use lib.IntN.{pos, negℤ};
-ghost use lib.ListN.{length};
 ghost use Rattle.settings.specs.Check.{intOr};
-ghost use Rattle.lines.specs.Fields.{before, times, firstField, otherFields, fieldAt, isDecimal, plainOf, minusOf, intOf, isGiven, isByte, isSetting, isFlag, flagOf};
+ghost use Rattle.lines.specs.Fields.{isDecimal, plainOf, minusOf, intOf, isGiven, isByte, isSetting, isFlag, flagOf};
 use crate::text::all_digits;
 use crate::text::number_of;
 use settings::super_opts::OptBool;
 use settings::super_opts::OptInt;
-
-// How many bytes stand before the first b.
-pub fn bytes_before(line: &[u8], b: u8) -> usize
-    ensures { λ r. ⌜ (r ≡ before b (now (line .entry))) × (r ≤ length (now (line .entry))) ⌝ }
-{
-    let mut at = 0;
-    while at < line.len() {
-        if line[at] == b {
-            return at;
-        }
-        at += 1;
-    }
-    at
-}
-
-// How often b stands there.
-pub fn times(line: &[u8], b: u8) -> usize
-    ensures { λ r. ⌜ r ≡ times b (now (line .entry)) ⌝ }
-{
-    let mut n: usize = 0;
-    for i in 0..line.len() {
-        n += (line[i] == b) as usize;
-    }
-    n
-}
-
-fn first_field(line: &[u8]) -> &[u8]
-    ensures { λ r. ⌜ now r ≡ firstField (now (line .entry)) ⌝ }
-{
-    let end = bytes_before(line, b' ');
-    &line[..end]
-}
-
-fn other_fields(line: &[u8]) -> &[u8]
-    ensures { λ r. ⌜ now r ≡ otherFields (now (line .entry)) ⌝ }
-{
-    let end = bytes_before(line, b' ');
-    if end == line.len() {
-        return &line[end..];
-    }
-    &line[end + 1..]
-}
-
-// The field of that number, from 0 on; past the last, nothing.
-pub fn field_at(line: &[u8], k: usize) -> &[u8]
-    ensures { λ r. ⌜ now r ≡ fieldAt (now (line .entry)) k ⌝ }
-{
-    if k == 0 {
-        return first_field(line);
-    }
-    field_at(other_fields(line), k - 1)
-}
 
 // 1 to 10 digits whose number is at most `most`.
 fn is_decimal(field: &[u8], most: u64) -> bool

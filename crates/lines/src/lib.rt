@@ -1,9 +1,11 @@
-// Lines of text: what the programs print for a line of their input.
+// Lines of text: what the programs `words` and `longhand` print for a line of their input.
 //     limits        how much input the programs take
-//     text          a line with a word, hexadecimal in and decimal out, and where a line ends
-//     fields        a line by its fields, and fields as settings
+//     text          digits in, and a line that is being made; a line with a word
+//     parting       an input into lines, and a line into fields
+//     fields        a field as a setting
 //     longhand      a line with a longhand record, or with settings
 pub mod fields;
 pub mod limits;
 pub mod longhand;
+pub mod parting;
 pub mod text;

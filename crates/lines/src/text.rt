@@ -1,12 +1,12 @@
 // Lines of text about words: a line in, the line that document 01 prints for it out.
-// First digits in; then `Line`, text that is being made, with what is put after it; then `line_out`, a whole line; last `line_end`, where a line of the input ends.
+// First digits in; then `Line`, text that is being made, with what is put after it; last `line_out`, a whole line.
 ghost use mathlib.Core.Path.{_≡_};
 ghost use mathlib.Core.Bool.{true};
 ghost use mathlib.Core.List.{[], _∷_};
-ghost use Prim.Native.Nat.{_+_, _*_, _^_, _≤_, _<_, min};
+ghost use Prim.Native.Nat.{_+_, _*_, _^_, _≤_, _<_};
 ghost use lib.ListN.{length};
 ghost use Rattle.settings.specs.Numbers.{bit};
-ghost use Rattle.lines.specs.Text.{isHex, hexOf, isDigit, allDigits, numberOf, hexRead, digits, decimal, magnitude, signed, spaced, hexDigit, hexDigits, hexText, optional, described, wordLine, sizesText, flagsText, filtersText, lineOut, room, shown, Appended, LineEnd};
+ghost use Rattle.lines.specs.Text.{isHex, hexOf, isDigit, allDigits, numberOf, hexRead, digits, decimal, magnitude, signed, spaced, hexDigit, hexDigits, hexText, optional, described, wordLine, sizesText, flagsText, filtersText, lineOut, room, shown, Appended};
 use settings::numbers::natural;
 use settings::super_opts::OptInt;
 use settings::word::Description;
@@ -274,21 +274,4 @@ pub fn line_out(line: &[u8]) -> Line
         Number::Value(v) => Line::new().with_word(line, v).with_byte(b'\n'),
         Number::Other => Line::new().with_byte(b'-').with_byte(b'\n'),
     }
-}
-
-// Where the line that starts at `from` ends: at the next newline, or at the end of the input.
-pub fn line_end(input: &[u8], from: usize) -> usize
-    ensures { λ r. ⌜ LineEnd (now (input .entry)) (min from (length (now (input .entry)))) r ⌝ }
-{
-    if input.len() <= from {
-        return input.len();
-    }
-    let mut at = from;
-    while at < input.len() {
-        if input[at] == b'\n' {
-            return at;
-        }
-        at += 1;
-    }
-    at
 }

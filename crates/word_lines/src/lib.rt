@@ -3,7 +3,7 @@
 use libc::STDIN_FILENO;
 use libc::STDOUT_FILENO;
 use lines::limits::MOST_INPUT;
-use lines::text::line_end;
+use lines::parting::line_end;
 use lines::text::line_out;
 
 pub fn answer_input() {

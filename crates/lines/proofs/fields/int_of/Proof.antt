@@ -1,9 +1,9 @@
 -- `int_of` meets its contract. Assumes nothing.
 use Rattle.lines.specs.Fields.{minusOf}
-use Rattle.lines.proofs.Parting.{part-rest}
+use Rattle.lines.proofs.Parted.{part-rest}
 use mathlib.Core.Path.{ap, _∙_}
 use native.Mathlib.Omega.{arith}
-use Rattle.lines.proofs.Parting.{int-none, int-minus, int-plain}
+use Rattle.lines.proofs.Decimals.{int-none, int-minus, int-plain}
 use borrow.Author.Needs.{needs}
 use Rattle.lines.proofs.fields.int_of.Statement.{statement}
 use Rattle.lines.proofs.fields.int_of.Tie as tie

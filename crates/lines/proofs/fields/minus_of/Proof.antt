@@ -3,7 +3,7 @@ use mathlib.Core.Path.{sym, ap, _∙_}
 use native.Mathlib.Omega.{arith}
 use borrow.Author.Tests.{not-true, not-false}
 use Rattle.settings.specs.declared.super_opts.OptInt.the-variants.{Given as GivenInt}
-use Rattle.lines.proofs.Parting.{Decimal, decimal-says}
+use Rattle.lines.proofs.Decimals.{Decimal, decimal-says}
 use Prim.Native.Nat.{ℕ}
 use lib.IntN.{pos, negℤ}
 use Rattle.settings.proofs.Integers.{same}

@@ -7,7 +7,7 @@ use mir.Syntax.{w32}
 use mir.Val.{SFits, toZ}
 use mir.Facts.{toZ-pos}
 use Rattle.settings.proofs.Integers.{same, turned-pos}
-use Rattle.lines.proofs.Parting.{minus-some}
+use Rattle.lines.proofs.Decimals.{minus-some}
 use borrow.Author.Needs.{needs}
 use Rattle.lines.proofs.fields.negated.Statement.{statement}
 use Rattle.lines.proofs.fields.negated.Tie as tie

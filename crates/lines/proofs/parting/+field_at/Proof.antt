@@ -3,18 +3,18 @@ use mathlib.Core.Path.{ap, _∙_}
 use mathlib.Core.List.{List}
 use Prim.Native.Nat.{_-_}
 use native.Mathlib.Omega.{arith}
-use Rattle.lines.specs.Fields.{fieldAt}
-use Rattle.lines.proofs.Parting.{field-first, field-next}
+use Rattle.lines.specs.Parting.{fieldAt}
+use Rattle.lines.proofs.Parted.{field-first, field-next}
 use Prim.Native.Nat.{ℕ, _<_}
 use borrow.Fn.Kinds.{In}
 use borrow.Fn.PlainCycle.{Measures, is, falls, and}
-use Rattle.lines.proofs.fields.field_at.Reads as field-at
-use Rattle.lines.proofs.fields.field_at.Kinds as field-at-kinds
-use Rattle.lines.proofs.fields.+field_at.Lts-field_at as field-at-lts
-use Rattle.lines.proofs.fields.first_field.Reads as first-field-reads
-use Rattle.lines.proofs.fields.other_fields.Reads as other-fields-reads
-use Rattle.lines.proofs.fields.+field_at.{statement}
-use Rattle.lines.proofs.fields.+field_at.Tie.{close}
+use Rattle.lines.proofs.parting.field_at.Reads as field-at
+use Rattle.lines.proofs.parting.field_at.Kinds as field-at-kinds
+use Rattle.lines.proofs.parting.+field_at.Lts-field_at as field-at-lts
+use Rattle.lines.proofs.parting.first_field.Reads as first-field-reads
+use Rattle.lines.proofs.parting.other_fields.Reads as other-fields-reads
+use Rattle.lines.proofs.parting.+field_at.{statement}
+use Rattle.lines.proofs.parting.+field_at.Tie.{close}
 
 abbrev μ-field-at : Measures 1 field-at-kinds.ps ℕ
 μ-field-at κs a = a .1 .0

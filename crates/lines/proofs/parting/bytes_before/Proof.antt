@@ -4,10 +4,10 @@ use Prim.Native.Nat.{_+_, _≤_, _-_}
 use native.Mathlib.Omega.{arith}
 use borrow.Author.Tests.{eq-eqb, ne-eqb}
 use lib.ListN.{length, getD, drop}
-use Rattle.lines.specs.Fields.{before}
-use Rattle.lines.proofs.Parting.{before-next, before-end}
-use Rattle.lines.proofs.fields.bytes_before.Statement.{statement}
-use Rattle.lines.proofs.fields.bytes_before.Tie as tie
+use Rattle.lines.specs.Parting.{before}
+use Rattle.lines.proofs.Parted.{before-next, before-end}
+use Rattle.lines.proofs.parting.bytes_before.Statement.{statement}
+use Rattle.lines.proofs.parting.bytes_before.Tie as tie
 
 abbrev Inv-loop : tie.InvT-loop
 Inv-loop line b at₀ at = (at + before b (drop at line) ≡ before b line) × (at ≤ length line)

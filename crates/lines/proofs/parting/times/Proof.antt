@@ -4,11 +4,11 @@ use Prim.Native.Nat.{_+_, _≤_, _-_}
 use native.Mathlib.Omega.{arith}
 use lib.Dec.{eqb}
 use lib.ListN.{length, getD, drop}
-use Rattle.lines.specs.Fields.{times}
+use Rattle.lines.specs.Parting.{times}
 use Rattle.lines.proofs.Lines.{is-bit, bit-small}
-use Rattle.lines.proofs.Parting.{times-next, times-end}
-use Rattle.lines.proofs.fields.times.Statement.{statement}
-use Rattle.lines.proofs.fields.times.Tie as tie
+use Rattle.lines.proofs.Parted.{times-next, times-end}
+use Rattle.lines.proofs.parting.times.Statement.{statement}
+use Rattle.lines.proofs.parting.times.Tie as tie
 
 abbrev Inv-loop : tie.InvT-loop
 Inv-loop line b n₀ i₀ i-end n i = (n + times b (drop i line) ≡ times b line) × (n ≤ i) × (i ≤ length line)

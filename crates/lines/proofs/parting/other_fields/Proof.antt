@@ -1,9 +1,9 @@
 -- `other_fields` meets its contract. Assumes nothing.
 use native.Mathlib.Omega.{arith}
-use Rattle.lines.proofs.Parting.{rest-none, rest-some}
+use Rattle.lines.proofs.Parted.{rest-none, rest-some}
 use borrow.Author.Needs.{needs}
-use Rattle.lines.proofs.fields.other_fields.Statement.{statement}
-use Rattle.lines.proofs.fields.other_fields.Tie as tie
+use Rattle.lines.proofs.parting.other_fields.Statement.{statement}
+use Rattle.lines.proofs.parting.other_fields.Tie as tie
 
 bytes-before-requires : tie.Need-bytes-before-requires
 bytes-before-requires c κs = search needs

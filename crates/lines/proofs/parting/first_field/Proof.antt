@@ -2,8 +2,8 @@
 use mathlib.Core.Path.{sym}
 use lib.Seq.{length-take-le}
 use borrow.Author.Needs.{needs}
-use Rattle.lines.proofs.fields.first_field.Statement.{statement}
-use Rattle.lines.proofs.fields.first_field.Tie as tie
+use Rattle.lines.proofs.parting.first_field.Statement.{statement}
+use Rattle.lines.proofs.parting.first_field.Tie as tie
 
 bytes-before-requires : tie.Need-bytes-before-requires
 bytes-before-requires c κs = search needs
