@@ -14,8 +14,6 @@
 --     Bodies     the body of kind 1 and its record, both ways
 --     Longhands  longhand records: what reading comes to, and what writing leaves
 --     Encodings  a record survives, has one encoding, and ends where its length says
---     Lines      text put together
---     Printed    what reading prints is short
 --     ByHand     document 01's table, computed
 --     Outcome    what a call promises, one outcome, and the law behind it
 --     Roundtrip  what is written is read, about the calls
@@ -35,8 +33,6 @@ pub mod Bytes
 pub mod Bodies
 pub mod Longhands
 pub mod Encodings
-pub mod Lines
-pub mod Printed
 pub mod ByHand
 pub mod Outcome
 pub mod Roundtrip

@@ -20,9 +20,6 @@ use Rattle.settings.proofs.word.prepare_alike.Reads as prepare-alike-re
 use Rattle.settings.proofs.longhand.read_longhand.Reads as read-longhand-reads
 use Rattle.settings.proofs.longhand.write_longhand.Reads as write-longhand-reads
 use Rattle.settings.proofs.super_opts.levels_of.Reads as levels-of-reads
-use Rattle.settings.proofs.text.hex_word.Reads as hex-word-reads
-use Rattle.settings.proofs.text.line_end.Reads as line-end-reads
-use Rattle.settings.proofs.Lines.{end-known}
 use Rattle.settings.proofs.super_opts.reduce_dim.Reads as reduce-dim-reads
 use Rattle.settings.proofs.Outcome.{OneOutcome, settled, itself}
 use Rattle.settings.proofs.Known.{read-known, told-known, tested-known, checked-known, packed-known, sized-known}
@@ -71,12 +68,6 @@ read-word-unique κs x r s e f p q = settled told-known p q
 
 pub prepare-alike-unique : (κs : Lfts 0) → OneOutcome (prepare-alike-reads.Post κs) (λ r e. r)
 prepare-alike-unique κs x r s e f p q = settled itself p q
-
-pub hex-word-unique : (κs : Lfts 1) → OneOutcome (hex-word-reads.Post κs) (λ r e. r)
-hex-word-unique κs x r s e f p q = settled itself p q
-
-pub line-end-unique : (κs : Lfts 1) → OneOutcome (line-end-reads.Post κs) (λ r e. r)
-line-end-unique κs x r s e f p q = end-known p q
 
 pub reduce-dim-unique : (κs : Lfts 0) → OneOutcome (reduce-dim-reads.Post κs) (λ r e. r)
 reduce-dim-unique κs x r s e f p q = settled itself p q

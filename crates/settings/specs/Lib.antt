@@ -9,7 +9,6 @@
 --     LittleEndian  numbers as bytes
 --     Kind1      the body of a longhand record of kind 1
 --     Longhand   the longhand record: its frame, and the number and value of reading and writing
---     Text       the line that the program prints for a line
 -- What is proved of these is in proofs/.
 pub mod Limits
 pub mod Numbers
@@ -21,4 +20,3 @@ pub mod Answers
 pub mod LittleEndian
 pub mod Kind1
 pub mod Longhand
-pub mod Text

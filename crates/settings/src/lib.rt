@@ -7,7 +7,6 @@
 //     little_endian numbers as bytes
 //     kind1         the body of a longhand record of kind 1
 //     longhand      the longhand record: written and read
-//     text          the line that is printed for a line
 mod kind1;
 pub mod limits;
 mod little_endian;
@@ -15,5 +14,4 @@ pub mod longhand;
 pub mod numbers;
 pub mod refusal;
 pub mod super_opts;
-pub mod text;
 pub mod word;

@@ -11,6 +11,3 @@ pub const MOST_LEVELS: usize = 13;
 
 // The largest count that the six bits of a word hold.
 pub const MOST_PACKED: u32 = 63;
-
-// The bytes of input that the program `words` takes.
-pub const MOST_INPUT: usize = 65536;

@@ -1,10 +1,10 @@
 // The program `words`, as a function: reads stored words, a line each, from standard input, and prints for each which build it names, or what it doesn't tell.
-// Document 01, "Words read and compared". The text of a line is made by `settings::text`; this reads, cuts the input into lines and writes.
+// Document 01, "Words read and compared". The text of a line is made by `lines::text`; this reads, cuts the input into lines and writes.
 use libc::STDIN_FILENO;
 use libc::STDOUT_FILENO;
-use settings::limits::MOST_INPUT;
-use settings::text::line_end;
-use settings::text::line_out;
+use lines::limits::MOST_INPUT;
+use lines::parting::line_end;
+use lines::text::line_out;
 
 pub fn answer_input() {
     // A byte more than is taken tells an input that is too long.

@@ -7,7 +7,7 @@ use borrow.Author.Needs.{needs}
 use Rattle.word_lines.proofs.print_line.Statement.{statement}
 use Rattle.word_lines.proofs.print_line.Tie as tie
 
-full : (c : tie.After-line-out) → length (c .line-out .result .bytes) ≡ 96
+full : (c : tie.After-line-out) → length (c .line-out .result .bytes) ≡ 256
 full c = search needs
 
 line-out-requires : tie.Need-line-out-requires

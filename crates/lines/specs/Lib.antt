@@ -1,0 +1,10 @@
+-- The programs' lines, as definitions. In the order to read them:
+--     Text       document 01, "Words read and compared": the line that the program `words` prints for a line
+--     Parting    an input into lines, and a line into fields
+--     Fields     the settings that fields are
+--     Longhand   the line that the program `longhand` prints for a line
+-- What is proved of these is in proofs/.
+pub mod Text
+pub mod Parting
+pub mod Fields
+pub mod Longhand

@@ -1,0 +1,117 @@
+// The lines of the program `longhand`: a longhand record in hexadecimal is read, and settings are written as one.
+// First the bytes that digits spell; then the settings of a line; then the text of a record; last `longhand_line`, a whole line.
+ghost use mathlib.Core.Path.{_≡_};
+ghost use mathlib.Core.Bool.{true};
+ghost use Prim.Native.Nat.{_+_, _*_, _/_, _≤_};
+ghost use lib.ListN.{length, take};
+ghost use Rattle.lines.specs.Text.{allDigits, room, Appended};
+ghost use Rattle.lines.specs.Longhand.{isRecord, bytesOf, areSizes, areNumbers, areFlags, isAsked, askedSide, askedSettings, optsText, packedWord, wordText};
+use crate::fields::flag_of;
+use crate::fields::int_of;
+use crate::fields::is_flag;
+use crate::fields::is_given;
+use crate::fields::is_setting;
+use crate::fields::or_zero;
+use crate::parting::field_at;
+use crate::parting::times;
+use crate::text::Line;
+use crate::text::all_digits;
+use crate::text::hex_of;
+use settings::super_opts::Packed;
+use settings::super_opts::Settings;
+use settings::super_opts::SuperOpts;
+
+fn is_record(line: &[u8]) -> bool
+    ensures { λ r. ⌜ r ≡ isRecord (now (line .entry)) ⌝ }
+{
+    (2 <= line.len()) & (line.len() % 2 == 0) & all_digits(line, 16)
+}
+
+// To the front of `out`.
+fn spell(line: &[u8], out: &mut [u8])
+    requires { ⌜ (allDigits 16 (now line) ≡ true) × (length (now line) ≤ 2 * length (now out)) ⌝ }
+    ensures { λ r. ⌜ take (length (now (line .entry)) / 2) (now (out .exit)) ≡ bytesOf (now (line .entry)) ⌝ }
+{
+    for i in 0..line.len() / 2 {
+        out[i] = (16 * hex_of(line[2 * i]) + hex_of(line[2 * i + 1])) as u8;
+    }
+}
+
+fn are_sizes(line: &[u8]) -> bool
+    ensures { λ r. ⌜ r ≡ areSizes (now (line .entry)) ⌝ }
+{
+    is_given(int_of(field_at(line, 0))) & is_given(int_of(field_at(line, 1)))
+}
+
+fn are_numbers(line: &[u8]) -> bool
+    ensures { λ r. ⌜ r ≡ areNumbers (now (line .entry)) ⌝ }
+{
+    is_setting(field_at(line, 2))
+        & is_setting(field_at(line, 3))
+        & is_setting(field_at(line, 7))
+        & is_setting(field_at(line, 8))
+}
+
+fn are_flags(line: &[u8]) -> bool
+    ensures { λ r. ⌜ r ≡ areFlags (now (line .entry)) ⌝ }
+{
+    is_flag(field_at(line, 4)) & is_flag(field_at(line, 5)) & is_flag(field_at(line, 6))
+}
+
+fn is_asked(line: &[u8]) -> bool
+    ensures { λ r. ⌜ r ≡ isAsked (now (line .entry)) ⌝ }
+{
+    (times(line, b' ') == 8) & are_sizes(line) & are_numbers(line) & are_flags(line)
+}
+
+fn asked_side(line: &[u8], k: usize) -> i32
+    ensures { λ r. ⌜ r ≡ askedSide (now (line .entry)) k ⌝ }
+{
+    or_zero(int_of(field_at(line, k)))
+}
+
+fn asked_settings(line: &[u8]) -> Settings
+    ensures { λ r. ⌜ r ≡ askedSettings (now (line .entry)) ⌝ }
+{
+    Settings {
+        pel: int_of(field_at(line, 2)),
+        gpu: int_of(field_at(line, 3)),
+        down: int_of(field_at(line, 7)),
+        up: int_of(field_at(line, 8)),
+        full: flag_of(field_at(line, 4)),
+        rc: flag_of(field_at(line, 5)),
+        lean: flag_of(field_at(line, 6)),
+    }
+}
+
+// A record's word; 0 where it isn't packed.
+fn packed_word(opts: SuperOpts) -> u64
+    ensures { λ r. ⌜ r ≡ packedWord opts ⌝ }
+{
+    match opts.pack_data() {
+        Packed::Word(w) => w,
+        Packed::Refused(_) => 0,
+    }
+}
+
+impl Line {
+    fn with_opts(self, opts: SuperOpts) -> Line
+        requires { ⌜ self .len + 195 ≤ room ⌝ }
+        ensures { λ r. ⌜ Appended self r (optsText opts) 195 ⌝ }
+    {
+        self.with_int(opts.width)
+            .with_int(opts.height)
+            .with_int(opts.pel)
+            .with_int(opts.gpu)
+            .with_flags(opts.full, opts.rc, opts.lean)
+            .with_int(opts.scale_down)
+            .with_int(opts.scale_up)
+    }
+
+    fn with_packed_word(self, opts: SuperOpts) -> Line
+        requires { ⌜ self .len + 17 ≤ room ⌝ }
+        ensures { λ r. ⌜ Appended self r (wordText opts) 17 ⌝ }
+    {
+        self.with_byte(b' ').with_hex(packed_word(opts), 16)
+    }
+}
