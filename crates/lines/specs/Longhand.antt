@@ -1,15 +1,17 @@
 -- The lines of the program `longhand`: a longhand record in hexadecimal, which is read, and settings, which are written as one.
 use Prim.Native.Nat.{ℕ, _+_, _*_, _%_}
-use mathlib.Core.Bool.{Bool, _&&_}
+use mathlib.Core.Bool.{Bool, cond, _&&_, _||_}
 use mathlib.Core.List.{List, [], _∷_, _++_}
 use lib.Dec.{leb, eqb}
 use lib.IntN.{ℤ, pos}
-use lib.ListN.{length}
+use lib.ListN.{length, replicate}
 use Rattle.settings.specs.declared.super_opts.Settings.{Settings}
 use Rattle.settings.specs.declared.super_opts.SuperOpts.{SuperOpts}
 use Rattle.settings.specs.Check.{intOr}
-use Rattle.settings.specs.Answers.{packAnswer}
-use Rattle.lines.specs.Text.{hexOf, allDigits, signed, spaced, flagsText, hexDigits}
+use Rattle.settings.specs.declared.longhand.Longhand.{Longhand}
+use Rattle.settings.specs.Answers.{Answer, checkAnswer, packAnswer}
+use Rattle.settings.specs.Longhand.{longhandAnswer, writeAnswer}
+use Rattle.lines.specs.Text.{hexOf, allDigits, decimal, signed, spaced, flagsText, hexDigits, hexText}
 use Rattle.lines.specs.Parting.{times, fieldAt}
 use Rattle.lines.specs.Fields.{intOf, isGiven, isSetting, isFlag, flagOf}
 
@@ -66,3 +68,28 @@ packedWord r = packAnswer r .value
 
 abbrev pub wordText : SuperOpts → List ℕ
 wordText r = spaced (hexDigits 16 (packedWord r))
+
+-- ---- out: what reading a record tells, "a kind it doesn't know" with the place after it
+unfoldable pub readText : Answer Longhand → List ℕ
+readText a =
+    decimal (a .no)
+    ++ cond (eqb (a .no) 0 || eqb (a .no) 16) (spaced (decimal (a .value .after))) []
+    ++ cond (eqb (a .no) 0) (optsText (a .value .opts) ++ wordText (a .value .opts)) []
+
+-- ---- out: the record of settings, or why there is none
+unfoldable pub writtenText : Answer (List ℕ) → List ℕ
+writtenText a = decimal (a .no) ++ cond (eqb (a .no) 0) (spaced (hexText (a .value))) []
+
+-- into 21 bytes, as many as a record takes
+unfoldable pub checkedText : Answer SuperOpts → List ℕ
+checkedText a = cond (eqb (a .no) 0) (writtenText (writeAnswer (a .value) (replicate 21 0))) (decimal (a .no))
+
+abbrev pub askedText : List ℕ → List ℕ
+askedText l = checkedText (checkAnswer (askedSettings l) (askedSide l 0) (askedSide l 1))
+
+-- ---- the line; `-` for any other
+unfoldable pub answerText : List ℕ → List ℕ
+answerText l = cond (isRecord l) (readText (longhandAnswer (bytesOf l))) (cond (isAsked l) (askedText l) (45 ∷ []))
+
+abbrev pub longhandLine : List ℕ → List ℕ
+longhandLine l = answerText l ++ (10 ∷ [])

@@ -3,23 +3,33 @@
 ghost use mathlib.Core.Path.{_≡_};
 ghost use mathlib.Core.Bool.{true};
 ghost use Prim.Native.Nat.{_+_, _*_, _/_, _≤_};
-ghost use lib.ListN.{length, take};
-ghost use Rattle.lines.specs.Text.{allDigits, room, Appended};
-ghost use Rattle.lines.specs.Longhand.{isRecord, bytesOf, areSizes, areNumbers, areFlags, isAsked, askedSide, askedSettings, optsText, packedWord, wordText};
+ghost use lib.ListN.{length, replicate, take};
+ghost use Rattle.lines.specs.Text.{allDigits, room, shown, Appended};
+ghost use Rattle.lines.specs.Longhand.{isRecord, bytesOf, areSizes, areNumbers, areFlags, isAsked, askedSide, askedSettings, optsText, packedWord, wordText, readText, writtenText, askedText, answerText, longhandLine};
+ghost use Rattle.settings.specs.Longhand.{readAs, longhandAnswer, writeAnswer};
 use crate::fields::flag_of;
 use crate::fields::int_of;
 use crate::fields::is_flag;
 use crate::fields::is_given;
 use crate::fields::is_setting;
 use crate::fields::or_zero;
+use crate::limits::MOST_INPUT;
 use crate::parting::field_at;
 use crate::parting::times;
 use crate::text::Line;
 use crate::text::all_digits;
 use crate::text::hex_of;
+use settings::longhand::Read;
+use settings::longhand::read_longhand;
+use settings::longhand::write_longhand;
+use settings::refusal::Tested;
+use settings::super_opts::Checked;
 use settings::super_opts::Packed;
 use settings::super_opts::Settings;
 use settings::super_opts::SuperOpts;
+
+// The bytes of a record.
+const RECORD: usize = 21;
 
 fn is_record(line: &[u8]) -> bool
     ensures { λ r. ⌜ r ≡ isRecord (now (line .entry)) ⌝ }
@@ -114,4 +124,75 @@ impl Line {
     {
         self.with_byte(b' ').with_hex(packed_word(opts), 16)
     }
+
+    fn with_read(self, r: Read) -> Line
+        requires { ⌜ self .len + 253 ≤ room ⌝ }
+        ensures { λ a. ⌜ Appended self a (readText (readAs r)) 253 ⌝ }
+    {
+        match r {
+            Read::Record(h) => {
+                let opts = h.opts;
+                self.with_decimal(0)
+                    .with_number(h.after as u64)
+                    .with_opts(opts)
+                    .with_packed_word(opts)
+            }
+            Read::Unknown(after) => self.with_decimal(16).with_number(after as u64),
+            Read::Refused(f) => self.with_decimal(f.number() as u64),
+        }
+    }
+
+    fn with_record(self, line: &[u8]) -> Line
+        requires { ⌜ (self .len + 253 ≤ room) × (length (now line) ≤ 65536) × (isRecord (now line) ≡ true) ⌝ }
+        ensures { λ r. ⌜ Appended self r (readText (longhandAnswer (bytesOf (now (line .entry))))) 253 ⌝ }
+    {
+        let mut bytes = [0u8; MOST_INPUT / 2];
+        spell(line, &mut bytes);
+        let n = line.len() / 2;
+        self.with_read(read_longhand(&bytes[..n]))
+    }
+
+    fn with_written(self, opts: SuperOpts) -> Line
+        requires { ⌜ self .len + 63 ≤ room ⌝ }
+        ensures { λ r. ⌜ Appended self r (writtenText (writeAnswer opts (replicate 21 0))) 63 ⌝ }
+    {
+        let mut bytes = [0u8; RECORD];
+        match write_longhand(opts, &mut bytes) {
+            Tested::Fine => self.with_decimal(0).with_byte(b' ').with_hex_bytes(&bytes),
+            Tested::Refused(f) => self.with_decimal(f.number() as u64),
+        }
+    }
+
+    fn with_asked(self, line: &[u8]) -> Line
+        requires { ⌜ self .len + 63 ≤ room ⌝ }
+        ensures { λ r. ⌜ Appended self r (askedText (now (line .entry))) 63 ⌝ }
+    {
+        let width = asked_side(line, 0);
+        let height = asked_side(line, 1);
+        match SuperOpts::from_opt(asked_settings(line), width, height) {
+            Checked::Accepted(opts) => self.with_written(opts),
+            Checked::Refused(f) => self.with_decimal(f.number() as u64),
+        }
+    }
+
+    fn with_answer(self, line: &[u8]) -> Line
+        requires { ⌜ (self .len + 253 ≤ room) × (length (now line) ≤ 65536) ⌝ }
+        ensures { λ r. ⌜ Appended self r (answerText (now (line .entry))) 253 ⌝ }
+    {
+        if is_record(line) {
+            return self.with_record(line);
+        }
+        if is_asked(line) {
+            return self.with_asked(line);
+        }
+        self.with_byte(b'-')
+    }
+}
+
+// The line that is printed for a line of the input.
+pub fn longhand_line(line: &[u8]) -> Line
+    requires { ⌜ length (now line) ≤ 65536 ⌝ }
+    ensures { λ r. ⌜ (shown r ≡ longhandLine (now (line .entry))) × (r .len ≤ room) ⌝ }
+{
+    Line::new().with_answer(line).with_byte(b'\n')
 }

@@ -1,15 +1,15 @@
 -- `print_lines` meets its contract. Assumes nothing.
 use Prim.Native.Nat.{_≤_, _-_, _+_}
 use native.Mathlib.Omega.{arith}
-use lib.ListN.{length}
-use Rattle.word_lines.proofs.print_lines.Statement.{statement}
-use Rattle.word_lines.proofs.print_lines.Tie as tie
+use lib.ListN.{length, drop, length-take}
+use Rattle.line_answers.proofs.print_lines.Statement.{statement}
+use Rattle.line_answers.proofs.print_lines.Tie as tie
 
 abbrev Inv-loop : tie.InvT-loop
-Inv-loop input at₀ at = at ≤ length input + 1
+Inv-loop program input at₀ at = at ≤ length input + 1
 
 abbrev μ-loop : tie.MeasureT-loop
-μ-loop input at₀ at = length input + 1 - at
+μ-loop program input at₀ at = length input + 1 - at
 
 loop-holds : tie.Need-loop-holds Inv-loop μ-loop
 loop-holds c = omega arith
@@ -27,7 +27,10 @@ part-print-line-end : tie.Need-part-print-line-end Inv-loop μ-loop
 part-print-line-end c = omega (arith, c .line-end .ensures .end)
 
 print-line-requires : tie.Need-print-line-requires Inv-loop μ-loop
-print-line-requires c κs = tt
+print-line-requires c κs =
+    let l = c .before .before .before in
+    let s = l .before .before in
+    omega (arith, length-take (c .before .line-end .result - l .loop .at) (drop (l .loop .at) (s .args .input .now)), c .before .line-end .ensures .end, s .pre)
 
 add-at : tie.Need-add-at Inv-loop μ-loop
 add-at c = omega (arith, c .before .before .line-end .ensures .end)

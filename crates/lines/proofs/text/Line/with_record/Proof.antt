@@ -1,0 +1,54 @@
+-- `with_record` meets its contract. Assumes nothing.
+use Rattle.settings.specs.Longhand.{longhandAnswer}
+use Rattle.lines.specs.Longhand.{readText}
+use mathlib.Core.Path.{_≡_, sym, ap, _∙_}
+use mathlib.Core.Bool.{_&&_}
+use Prim.Native.Nat.{_/_, _%_}
+use native.Mathlib.Omega.{arith}
+use lib.Dec.{leb, eqb}
+use lib.ListN.{length}
+use lib.Seq.{length-take-le}
+use Rattle.settings.proofs.Tests.{and-right}
+use Rattle.lines.specs.Text.{allDigits}
+use Rattle.lines.proofs.Lines.{said}
+use borrow.Author.Needs.{needs}
+use Rattle.lines.proofs.text.Line.with_record.Statement.{statement}
+use Rattle.lines.proofs.text.Line.with_record.Tie as tie
+
+full : (c : tie.After-spell) → length (c .spell .last .1 .0) ≡ 32768
+full c = search needs
+
+slice-aggregate-spell : tie.Need-slice-aggregate-spell
+slice-aggregate-spell c = search needs
+
+spell-requires : tie.Need-spell-requires
+spell-requires c κs = let s = c .before .before in let l = s .args .line .now in (and-right (leb 2 (length l) && eqb (length l % 2) 0) (allDigits 16 l) (s .pre .2), omega (arith, s .pre .1))
+
+array-share-prefix-bytes : tie.Need-array-share-prefix-bytes
+array-share-prefix-bytes c = search needs
+
+slice-aggregate-read-longhand : tie.Need-slice-aggregate-read-longhand
+slice-aggregate-read-longhand c = let b = c .before .before in let s = b .before .before .before in sym (length-take-le (length (s .args .line .now) / 2) (b .spell .last .1 .0) (omega (arith, full b, s .pre .1)))
+
+read-longhand-requires : tie.Need-read-longhand-requires
+read-longhand-requires c κs = search needs
+
+with-read-requires : tie.Need-with-read-requires
+with-read-requires c κs = search needs
+
+returns : tie.Need-returns
+returns c =
+    let p = c .before .before .before .before in
+    said (ap readText (c .before .read-longhand .ensures ∙ ap longhandAnswer (p .spell .ensures))) (c .with-read .ensures)
+
+pub with-record-spec : {M : Type 1} → statement M
+with-record-spec =
+    tie.close
+    (tie.spec
+    slice-aggregate-spell
+    spell-requires
+    array-share-prefix-bytes
+    slice-aggregate-read-longhand
+    read-longhand-requires
+    with-read-requires
+    returns)
