@@ -106,7 +106,7 @@ spelled l e =
       frame = whole l (then-first (frameNo l) a fa);
       kind = kind;
       long = long ∙ ap kindLength kind;
-      good = not-false (kind1Good (bodyOf l)) (refuse-not (not (kind1Good (bodyOf l))) 17 (then-rest (frameNo l then a then b) c e));
+      good = ap (λ (k : ℕ). isBody k (bodyOf l)) (sym kind) ∙ not-false (isBody (kindOf l) (bodyOf l)) (refuse-not (not (isBody (kindOf l) (bodyOf l))) 17 (then-rest (frameNo l then a then b) c e));
     }
 
 read-begins : (l : List ℕ) → bytes l ≡ true → longhandNo l ≡ 0 → Begins l (kind1Record (bodyOf l))

@@ -2,7 +2,7 @@
 -- A further kind adds a case to `kindLength` and `isBody` and a body of its own beside Kind1.
 use Prim.Native.Nat.{ℕ, _+_, _-_}
 use mathlib.Core.Path.{_≡_}
-use mathlib.Core.Bool.{Bool, true, cond, not, _||_}
+use mathlib.Core.Bool.{Bool, true, false, cond, not, _||_}
 use mathlib.Core.List.{List, _++_}
 use lib.Dec.{eqb, ltb}
 use lib.ListN.{length, take, drop}
@@ -38,8 +38,9 @@ bodyOf l = take (lengthOf l - 2) (drop 6 l)
 abbrev pub kindLength : ℕ → ℕ
 kindLength kind = cond (eqb kind 1) kind1Length 0
 
+-- whether a body is one of the kind's
 abbrev pub isBody : ℕ → List ℕ → Bool
-isBody kind body = kind1Good body
+isBody kind body = cond (eqb kind 1) (kind1Good body) false
 
 -- ---- reading
 -- "15 bytes run short of the length field or of the length"; "a length below 2 is 17 before any kind is read"
