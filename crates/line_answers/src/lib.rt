@@ -1,7 +1,6 @@
 // The programs `words` and `longhand`, as a function: standard input is answered line by line.
 // The text of a line is made by `lines`; this reads, cuts the input into lines and writes.
 ghost use Prim.Native.Nat.{_≤_};
-ghost use lib.ListN.{length};
 use libc::STDIN_FILENO;
 use libc::STDOUT_FILENO;
 use lines::limits::MOST_INPUT;
@@ -27,9 +26,7 @@ pub fn answer_input(program: Program) {
     print_lines(program, &input[..n]);
 }
 
-fn print_lines(program: Program, input: &[u8])
-    requires { ⌜ length (now input) ≤ 65536 ⌝ }
-{
+fn print_lines(program: Program, input: &[u8]) {
     let mut at = 0;
     while at < input.len() {
         let end = line_end(input, at);
@@ -38,9 +35,7 @@ fn print_lines(program: Program, input: &[u8])
     }
 }
 
-fn print_line(program: Program, line: &[u8])
-    requires { ⌜ length (now line) ≤ 65536 ⌝ }
-{
+fn print_line(program: Program, line: &[u8]) {
     match program {
         Program::Words => print(line_out(line)),
         Program::Longhand => print(longhand_line(line)),

@@ -11,13 +11,14 @@ use Rattle.settings.specs.Check.{intOr}
 use Rattle.settings.specs.declared.longhand.Longhand.{Longhand}
 use Rattle.settings.specs.Answers.{Answer, checkAnswer, packAnswer}
 use Rattle.settings.specs.Longhand.{longhandAnswer, writeAnswer}
+use Rattle.lines.specs.Limits.{mostInput}
 use Rattle.lines.specs.Text.{hexOf, allDigits, decimal, signed, spaced, flagsText, hexDigits, hexText}
 use Rattle.lines.specs.Parting.{times, fieldAt}
 use Rattle.lines.specs.Fields.{intOf, isGiven, isSetting, isFlag, flagOf}
 
--- ---- in: a record, two digits for each byte
+-- ---- in: a record, two digits for each byte; no line is longer than the input
 abbrev pub isRecord : List ℕ → Bool
-isRecord l = leb 2 (length l) && eqb (length l % 2) 0 && allDigits 16 l
+isRecord l = leb 2 (length l) && leb (length l) mostInput && eqb (length l % 2) 0 && allDigits 16 l
 
 unfoldable pub bytesOf : List ℕ → List ℕ
 bytesOf [] = []

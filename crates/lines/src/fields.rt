@@ -56,7 +56,7 @@ fn negated(n: u64) -> i32
 }
 
 // The integer that a field is.
-pub fn int_of(field: &[u8]) -> OptInt
+pub(crate) fn int_of(field: &[u8]) -> OptInt
     ensures { λ r. ⌜ r ≡ intOf (now (field .entry)) ⌝ }
 {
     if field.len() == 0 {
@@ -68,7 +68,7 @@ pub fn int_of(field: &[u8]) -> OptInt
     plain_of(field)
 }
 
-pub fn is_given(o: OptInt) -> bool
+pub(crate) fn is_given(o: OptInt) -> bool
     ensures { λ r. ⌜ r ≡ isGiven o ⌝ }
 {
     match o {
@@ -78,7 +78,7 @@ pub fn is_given(o: OptInt) -> bool
 }
 
 // The integer, or 0.
-pub fn or_zero(o: OptInt) -> i32
+pub(crate) fn or_zero(o: OptInt) -> i32
     ensures { λ r. ⌜ r ≡ intOr o (pos 0) ⌝ }
 {
     match o {
@@ -96,19 +96,19 @@ fn is_byte(field: &[u8], b: u8) -> bool
     field[0] == b
 }
 
-pub fn is_setting(field: &[u8]) -> bool
+pub(crate) fn is_setting(field: &[u8]) -> bool
     ensures { λ r. ⌜ r ≡ isSetting (now (field .entry)) ⌝ }
 {
     is_given(int_of(field)) | is_byte(field, b'-')
 }
 
-pub fn is_flag(field: &[u8]) -> bool
+pub(crate) fn is_flag(field: &[u8]) -> bool
     ensures { λ r. ⌜ r ≡ isFlag (now (field .entry)) ⌝ }
 {
     is_byte(field, b'0') | is_byte(field, b'1') | is_byte(field, b'-')
 }
 
-pub fn flag_of(field: &[u8]) -> OptBool
+pub(crate) fn flag_of(field: &[u8]) -> OptBool
     ensures { λ r. ⌜ r ≡ flagOf (now (field .entry)) ⌝ }
 {
     if is_byte(field, b'-') {

@@ -4,7 +4,7 @@
 //     parting       an input into lines, and a line into fields
 //     fields        a field as a setting
 //     longhand      a line with a longhand record, or with settings
-pub mod fields;
+mod fields;
 pub mod limits;
 pub mod longhand;
 pub mod parting;

@@ -1,4 +1,2 @@
-// The programs' limit.
-
-// The bytes of input that a program takes.
+// The bytes of input that a program takes. specs/Limits.antt has the same number.
 pub const MOST_INPUT: usize = 65536;

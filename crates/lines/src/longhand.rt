@@ -34,7 +34,7 @@ const RECORD: usize = 21;
 fn is_record(line: &[u8]) -> bool
     ensures { λ r. ⌜ r ≡ isRecord (now (line .entry)) ⌝ }
 {
-    (2 <= line.len()) & (line.len() % 2 == 0) & all_digits(line, 16)
+    (2 <= line.len()) & (line.len() <= MOST_INPUT) & (line.len() % 2 == 0) & all_digits(line, 16)
 }
 
 // To the front of `out`.
@@ -143,7 +143,7 @@ impl Line {
     }
 
     fn with_record(self, line: &[u8]) -> Line
-        requires { ⌜ (self .len + 253 ≤ room) × (length (now line) ≤ 65536) × (isRecord (now line) ≡ true) ⌝ }
+        requires { ⌜ (self .len + 253 ≤ room) × (isRecord (now line) ≡ true) ⌝ }
         ensures { λ r. ⌜ Appended self r (readText (longhandAnswer (bytesOf (now (line .entry))))) 253 ⌝ }
     {
         let mut bytes = [0u8; MOST_INPUT / 2];
@@ -176,7 +176,7 @@ impl Line {
     }
 
     fn with_answer(self, line: &[u8]) -> Line
-        requires { ⌜ (self .len + 253 ≤ room) × (length (now line) ≤ 65536) ⌝ }
+        requires { ⌜ self .len + 253 ≤ room ⌝ }
         ensures { λ r. ⌜ Appended self r (answerText (now (line .entry))) 253 ⌝ }
     {
         if is_record(line) {
@@ -191,7 +191,6 @@ impl Line {
 
 // The line that is printed for a line of the input.
 pub fn longhand_line(line: &[u8]) -> Line
-    requires { ⌜ length (now line) ≤ 65536 ⌝ }
     ensures { λ r. ⌜ (shown r ≡ longhandLine (now (line .entry))) × (r .len ≤ room) ⌝ }
 {
     Line::new().with_answer(line).with_byte(b'\n')

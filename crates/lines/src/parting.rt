@@ -6,7 +6,7 @@ ghost use lib.ListN.{length};
 ghost use Rattle.lines.specs.Parting.{before, times, firstField, otherFields, fieldAt, LineEnd};
 
 // How many bytes stand before the first b.
-pub fn bytes_before(line: &[u8], b: u8) -> usize
+pub(crate) fn bytes_before(line: &[u8], b: u8) -> usize
     ensures { λ r. ⌜ (r ≡ before b (now (line .entry))) × (r ≤ length (now (line .entry))) ⌝ }
 {
     let mut at = 0;
@@ -30,7 +30,7 @@ pub fn line_end(input: &[u8], from: usize) -> usize
 }
 
 // How often b stands there.
-pub fn times(line: &[u8], b: u8) -> usize
+pub(crate) fn times(line: &[u8], b: u8) -> usize
     ensures { λ r. ⌜ r ≡ times b (now (line .entry)) ⌝ }
 {
     let mut n: usize = 0;
@@ -58,7 +58,7 @@ fn other_fields(line: &[u8]) -> &[u8]
 }
 
 // The field of that number, from 0 on; past the last, nothing.
-pub fn field_at(line: &[u8], k: usize) -> &[u8]
+pub(crate) fn field_at(line: &[u8], k: usize) -> &[u8]
     ensures { λ r. ⌜ now r ≡ fieldAt (now (line .entry)) k ⌝ }
 {
     if k == 0 {

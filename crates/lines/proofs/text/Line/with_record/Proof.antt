@@ -1,19 +1,29 @@
 -- `with_record` meets its contract. Assumes nothing.
 use Rattle.settings.specs.Longhand.{longhandAnswer}
-use Rattle.lines.specs.Longhand.{readText}
+use Rattle.lines.specs.Longhand.{isRecord, readText}
 use mathlib.Core.Path.{_≡_, sym, ap, _∙_}
-use mathlib.Core.Bool.{_&&_}
-use Prim.Native.Nat.{_/_, _%_}
+use mathlib.Core.Bool.{true, _&&_}
+use mathlib.Core.List.{List}
+use Prim.Native.Nat.{ℕ, _/_, _%_, _≤_}
 use native.Mathlib.Omega.{arith}
 use lib.Dec.{leb, eqb}
 use lib.ListN.{length}
+use borrow.Author.Tests.{leb-true}
 use lib.Seq.{length-take-le}
-use Rattle.settings.proofs.Tests.{and-right}
+use Rattle.settings.proofs.Tests.{and-left, and-right}
+use Rattle.lines.specs.Limits.{mostInput}
 use Rattle.lines.specs.Text.{allDigits}
 use Rattle.lines.proofs.Lines.{said}
 use borrow.Author.Needs.{needs}
 use Rattle.lines.proofs.text.Line.with_record.Statement.{statement}
 use Rattle.lines.proofs.text.Line.with_record.Tie as tie
+
+short : (l : List ℕ) → isRecord l ≡ true → length l ≤ mostInput
+short l e =
+    let some = leb 2 (length l) in
+    let few = leb (length l) mostInput in
+    let even = eqb (length l % 2) 0 in
+    leb-true (length l) mostInput (and-right some few (and-left (some && few) even (and-left (some && few && even) (allDigits 16 l) e)))
 
 full : (c : tie.After-spell) → length (c .spell .last .1 .0) ≡ 32768
 full c = search needs
@@ -22,13 +32,13 @@ slice-aggregate-spell : tie.Need-slice-aggregate-spell
 slice-aggregate-spell c = search needs
 
 spell-requires : tie.Need-spell-requires
-spell-requires c κs = let s = c .before .before in let l = s .args .line .now in (and-right (leb 2 (length l) && eqb (length l % 2) 0) (allDigits 16 l) (s .pre .2), omega (arith, s .pre .1))
+spell-requires c κs = let s = c .before .before in let l = s .args .line .now in (and-right (leb 2 (length l) && leb (length l) mostInput && eqb (length l % 2) 0) (allDigits 16 l) (s .pre .1), omega (arith, short l (s .pre .1)))
 
 array-share-prefix-bytes : tie.Need-array-share-prefix-bytes
-array-share-prefix-bytes c = search needs
+array-share-prefix-bytes c = let b = c .before in let s = b .before .before .before in omega (arith, full b, short (s .args .line .now) (s .pre .1))
 
 slice-aggregate-read-longhand : tie.Need-slice-aggregate-read-longhand
-slice-aggregate-read-longhand c = let b = c .before .before in let s = b .before .before .before in sym (length-take-le (length (s .args .line .now) / 2) (b .spell .last .1 .0) (omega (arith, full b, s .pre .1)))
+slice-aggregate-read-longhand c = let b = c .before .before in let s = b .before .before .before in sym (length-take-le (length (s .args .line .now) / 2) (b .spell .last .1 .0) (omega (arith, full b, short (s .args .line .now) (s .pre .1))))
 
 read-longhand-requires : tie.Need-read-longhand-requires
 read-longhand-requires c κs = search needs
