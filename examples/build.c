@@ -1,4 +1,4 @@
-/* The library from C: settings to a record, its word, what a build needs, and an 8x8 plane built. scripts/library compiles and runs it. */
+/* The library from C: settings to a record, its word and longhand, what a build needs, and an 8x8 plane built. scripts/library compiles and runs it. */
 #include <inttypes.h>
 #include <stdio.h>
 #include <stdlib.h>
@@ -28,6 +28,16 @@ int main(void) {
     uint64_t word;
     done("sill_pack_data", sill_pack_data(record, SILL_COUNT_RECORD, &word, SILL_COUNT_WORD));
     printf("word %016" PRIx64 "\n", word);
+
+    /* Beside the word, the settings spelled out: they can always be read back, which a word's can't. */
+    uint8_t longhand[SILL_COUNT_LONGHAND];
+    done("sill_longhand_write", sill_longhand_write(record, SILL_COUNT_RECORD, longhand, SILL_COUNT_LONGHAND));
+    printf("longhand ");
+    for (int i = 0; i < SILL_COUNT_LONGHAND; i++) printf("%02x", longhand[i]);
+    int32_t again[SILL_COUNT_RECORD];
+    size_t after;
+    done("sill_longhand_read", sill_longhand_read(longhand, sizeof longhand, again, SILL_COUNT_RECORD, &after, SILL_COUNT_AFTER));
+    printf(", read back: %" PRId32 "x%" PRId32 ", pel %" PRId32 ", after it %zu\n", again[SILL_AT_WIDTH], again[SILL_AT_HEIGHT], again[SILL_AT_PEL], after);
 
     size_t end, needs[SILL_COUNT_NEEDS];
     done("sill_written_end", sill_written_end(record, SILL_COUNT_RECORD, 0, 0, PITCH, &end, SILL_COUNT_END));

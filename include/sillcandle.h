@@ -1,21 +1,36 @@
-/* Sillcandle's library: settings and their word, and the super frame that they ask for. For C99, C++ and x86-64 Linux.
+/* Sillcandle's library: settings, their word and their longhand record, and the super frame that they ask for. For C99, C++ and x86-64 Linux.
    Link with target/staticlib/libsillcandle.a, which scripts/library builds.
 
-   In order: what holds for every call; numbers, counts and places; the bits of `given`; calls: settings and words, sizes and
-   layouts, frames.
+   In order: what holds for every call; numbers, counts and places; the bits of `given`; calls: settings and words, longhand records,
+   sizes and layouts, frames.
 
    Numbers. Each call but sill_prepare_alike returns 0 where it is done, else the number that says why not: those of document 01's
-   table and 15, which the table leaves free. Where more than one applies the lowest is given, and none other.
+   table, and document 02's 15 to 18, which the table leaves free. Where more than one applies the lowest is given, and none other;
+   sill_longhand_read says in which order it looks.
 
    Slices. A slice is a pointer and then a count of elements, and the pointer is aligned for its type, as C's own arrays are.
    Where the count is 0 the pointer isn't looked at and may be NULL: a slice that is missing is a slice of length 0, and gets the
    number of one that is too short. Two slices of a call must not overlap.
 
    Answers. They go to the front of a slice that is lent for them. If it has fewer elements than the answer the number is
-   SILL_NO_ROOM; elements past the answer stay as they are. A call that doesn't return 0 changes nothing that it was lent.
+   SILL_NO_ROOM; elements past the answer stay as they are. A call that doesn't return 0 changes nothing that it was lent, but for the
+   place that sill_longhand_read tells with SILL_NO_KIND.
 
-   Records. A record is SILL_COUNT_RECORD numbers: pel, gpu, down, up, full, rc, lean, levels, width, height. It comes from sill_check.
-   Anything else, as another count, a flag neither 0 nor 1 or numbers that sill_check can't give, is refused with SILL_NO_RECORD.
+   Records. A record is SILL_COUNT_RECORD numbers: pel, gpu, down, up, full, rc, lean, levels, width, height. It comes from sill_check
+   or sill_longhand_read, which gives none that sill_check can't give. Anything else, as another count, a flag neither 0 nor 1 or other
+   numbers, is refused with SILL_NO_RECORD.
+
+   Longhand. A longhand record is SILL_COUNT_LONGHAND bytes that spell a record out, all numbers with their lowest byte first:
+       bytes  0 to  3   length, 17: how many bytes follow it
+       bytes  4 and 5   kind, 1
+       bytes  6 and 7   width
+       bytes  8 and 9   height
+       byte  10         pel
+       byte  11         gpu
+       byte  12         flags: 1 full, 2 rc, 4 lean; no other bit is set
+       bytes 13 to 16   down, signed
+       bytes 17 to 20   up, signed
+   Levels aren't there: they follow from the size. One record has one longhand, and every record comes back from its own.
 
    Settings. down is how a level is halved: 0 or 1 average, 2 bilinear, 3 quadratic, 4 cubic; any other value leaves the levels after
    0 unwritten. up is how the planes between level 0's samples are made: 0 bilinear, 1 bicubic, any other value Wiener. Any int32_t
@@ -57,7 +72,10 @@ enum {
     SILL_BAD_SPILL = 12,       /* spill shorter than its need */
     SILL_BAD_SCRATCH = 13,     /* scratch shorter than 16 * (pitch + 16) */
     SILL_BAD_LEVELS = 14,      /* packing: more than 63 levels */
-    SILL_NO_ROOM = 15,         /* a slice lent for the answer is shorter than the answer */
+    SILL_NO_ROOM = 15,         /* a slice lent for the answer is shorter than the answer; longhand: bytes run short of length or record */
+    SILL_NO_KIND = 16,         /* longhand: the kind isn't known */
+    SILL_BAD_LENGTH = 17,      /* longhand: length isn't the kind's, or is below 2 */
+    SILL_BAD_CONTENTS = 18,    /* longhand: contents aren't an accepted record, or a spare flag is set */
     SILL_NO_ROW = 19,          /* no such level, plane or row is stored */
     SILL_NO_CODE = 20,         /* the word is no code */
     SILL_NO_DOWN = 21,         /* halving filter isn't told */
@@ -69,6 +87,8 @@ enum {
     SILL_COUNT_RECORD = 10,
     SILL_COUNT_WORD = 1,
     SILL_COUNT_TOLD = 12,
+    SILL_COUNT_LONGHAND = 21,
+    SILL_COUNT_AFTER = 1,
     SILL_COUNT_SIZES = 2,
     SILL_COUNT_REGIONS = 40,
     SILL_COUNT_END = 1,
@@ -136,6 +156,19 @@ uint32_t sill_read_word(uint64_t word, int32_t *told, size_t told_count);
 
 /* 1 if both words name one build and all their bits but those of rc and lean agree, else 0. The answer is no number of document 01. */
 uint32_t sill_prepare_alike(uint64_t a, uint64_t b);
+
+/* The longhand record of a record. Writes SILL_COUNT_LONGHAND bytes.
+   Numbers: 6 SILL_NO_RECORD, 15 SILL_NO_ROOM. */
+uint32_t sill_longhand_write(const int32_t *record, size_t record_count, uint8_t *bytes, size_t bytes_count);
+
+/* Reads the longhand record that stands at the front of the bytes; others may follow it. Writes SILL_COUNT_RECORD numbers to `record`, and
+   to `after` 1 number, the place after the record. Of a kind that isn't known only the place is told, by the length, so that a reader
+   can go on behind it.
+   Numbers, in the order in which they are looked for: 15 SILL_NO_ROOM where `record` or `after` is shorter than its answer, whether or
+   not it would be written; 15 where there are fewer than 4 bytes, or fewer after these than the length; 17 SILL_BAD_LENGTH for a
+   length below 2; 16 SILL_NO_KIND; 17 for a length that isn't the kind's; 18 SILL_BAD_CONTENTS. */
+uint32_t sill_longhand_read(const uint8_t *bytes, size_t bytes_count, int32_t *record, size_t record_count,
+                            size_t *after, size_t after_count);
 
 /* The size of the super frame that a record asks for. Writes SILL_COUNT_SIZES numbers: width, height.
    Numbers: 6 SILL_NO_RECORD, 15 SILL_NO_ROOM. */

@@ -24,19 +24,19 @@ static void differs(const void *ours, const void *rusts, size_t bytes, const cha
 #define BESIDE(...)
 #endif
 
-const char *const names[CALLS] = {"sill_check", "sill_accepted", "sill_pack_data", "sill_read_word", "sill_prepare_alike", "sill_super_sizes", "sill_level_regions", "sill_written_end", "sill_needs", "sill_clear_margins", "sill_row", "sill_build_plane"};
+const char *const names[CALLS] = {"sill_check", "sill_accepted", "sill_pack_data", "sill_read_word", "sill_prepare_alike", "sill_longhand_write", "sill_longhand_read", "sill_super_sizes", "sill_level_regions", "sill_written_end", "sill_needs", "sill_clear_margins", "sill_row", "sill_build_plane"};
 uint64_t met[CALLS][23];
 
-static lent record, answer, frame, spill, scratch, src;
+static lent record, answer, after, bytes, frame, spill, scratch, src;
 #ifdef RUST
 static uint8_t *want;
 #endif
 const uint8_t *source_given;
 
 void calls_open(void) {
-    lent *all[] = {&record, &answer, &frame, &spill, &scratch, &src};
-    static const char *const called[] = {"record", "answer", "frame", "spill", "scratch", "source"};
-    for (int k = 0; k < 6; k++) lent_open(all[k], called[k]);
+    lent *all[] = {&record, &answer, &after, &bytes, &frame, &spill, &scratch, &src};
+    static const char *const called[] = {"record", "answer", "place after", "bytes", "frame", "spill", "scratch", "source"};
+    for (int k = 0; k < 8; k++) lent_open(all[k], called[k]);
     BESIDE(if (!(want = malloc(MOST))) failed("no memory");)
 }
 
@@ -56,7 +56,7 @@ static uint32_t answered(int call, uint32_t got, uint32_t no, const void *value,
     return got;
 }
 
-/* "After 1 to 14, before 19 to 22": the lowest number that applies. */
+/* "After 1 to 14, before 16 to 22": the lowest number that applies. */
 static uint32_t lowest(uint32_t no, size_t room, size_t need) { return room < need && (!no || no > 15) ? 15 : no; }
 
 static void tell_layout(int call, const layout *l) {
@@ -118,6 +118,42 @@ uint32_t try_read(uint64_t word, size_t room) {
 uint32_t try_alike(uint64_t a, uint64_t b) {
     tell("sill_prepare_alike(%016" PRIx64 ", %016" PRIx64 ")", a, b);
     return numbered(ALIKE, sill_prepare_alike(a, b), rule_alike(a, b));
+}
+
+uint32_t try_longhand_write(const layout *l, size_t room) {
+    uint8_t longhand[21];
+    tell_room(LONGHAND_WRITE, l, room);
+    uint32_t no = rule_longhand_write(l->record, l->count, longhand);
+    const int32_t *r = lend_record(l);
+    uint8_t *to = lend(&answer, room);
+    uint32_t got = answered(LONGHAND_WRITE, sill_longhand_write(r, l->count, to, room), lowest(no, room, 21), longhand, sizeof longhand);
+    lent_kept(&record);
+    return got;
+}
+
+/* What is read, as far as a message has room for it. */
+static void tell_longhand(const uint8_t *of, size_t count, size_t record_room, size_t after_room) {
+    char digits[2 * 48 + 1];
+    size_t most = count < 48 ? count : 48;
+    for (size_t k = 0; k < most; k++) digits[2 * k] = "0123456789abcdef"[of[k] >> 4], digits[2 * k + 1] = "0123456789abcdef"[of[k] & 15];
+    digits[2 * most] = 0;
+    tell("sill_longhand_read(%zu bytes %s, room %zu and %zu)", count, digits, record_room, after_room);
+}
+
+/* Both answers with 0; with 16 the place alone, by the length. */
+uint32_t try_longhand_read(const uint8_t *of, size_t count, size_t record_room, size_t after_room) {
+    int32_t r[10];
+    size_t place;
+    tell_longhand(of, count, record_room, after_room);
+    uint32_t no = lowest(lowest(rule_longhand_read(of, count, r, &place), record_room, 10), after_room, 1);
+    const uint8_t *from = lend_copy(&bytes, of, count);
+    int32_t *to = lend(&answer, record_room * sizeof *to);
+    size_t *behind = lend(&after, after_room * sizeof *behind);
+    uint32_t got = answered(LONGHAND_READ, sill_longhand_read(from, count, to, record_room, behind, after_room), no, r, sizeof r);
+    if (no == 0 || no == 16) lent_front(&after, &place, sizeof place);
+    else lent_kept(&after);
+    lent_kept(&bytes);
+    return got;
 }
 
 uint32_t try_sizes(const layout *l, size_t room) {

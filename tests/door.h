@@ -19,12 +19,14 @@ typedef struct {
     size_t frame, spill, scratch, src, src_pitch;
 } lengths;
 
-/* rules.c: document 01's table and sizes. A number, or 0 and the answer. */
+/* rules.c: document 01's table and sizes, and document 02's longhand record. A number, or 0 and the answer. */
 uint32_t rule_check(uint32_t given, const int32_t set[7], int32_t width, int32_t height, int32_t record[10]);
 uint32_t rule_record(const int32_t *record, size_t count);
 uint64_t rule_word(const int32_t record[10]);
 uint32_t rule_read(uint64_t word, int32_t told[12]);
 uint32_t rule_alike(uint64_t a, uint64_t b);
+uint32_t rule_longhand_write(const int32_t *record, size_t count, uint8_t bytes[21]);
+uint32_t rule_longhand_read(const uint8_t *bytes, size_t count, int32_t record[10], size_t *after);
 void rule_sizes(const int32_t record[10], int32_t sizes[2]);
 uint32_t rule_layout(const layout *l);
 void rule_regions(const layout *l, size_t regions[40]);
@@ -64,7 +66,7 @@ void tell_more(const char *what, ...) __attribute__((format(printf, 1, 2)));
 void watch(void);
 
 /* calls.c: one call each, held to the rules and the Rust. The number that the call gave, or of two words whether they are alike. */
-enum { CHECK, ACCEPTED, PACK, READ, ALIKE, SIZES, REGIONS, END, NEEDS, CLEAR, ROW, BUILD, CALLS };
+enum { CHECK, ACCEPTED, PACK, READ, ALIKE, LONGHAND_WRITE, LONGHAND_READ, SIZES, REGIONS, END, NEEDS, CLEAR, ROW, BUILD, CALLS };
 extern const char *const names[CALLS];
 extern uint64_t met[CALLS][23];
 void calls_open(void);
@@ -73,6 +75,8 @@ uint32_t try_accepted(const layout *l);
 uint32_t try_pack(const layout *l, size_t room);
 uint32_t try_read(uint64_t word, size_t room);
 uint32_t try_alike(uint64_t a, uint64_t b);
+uint32_t try_longhand_write(const layout *l, size_t room);
+uint32_t try_longhand_read(const uint8_t *bytes, size_t count, size_t record_room, size_t after_room);
 uint32_t try_sizes(const layout *l, size_t room);
 uint32_t try_regions(const layout *l, size_t room);
 uint32_t try_end(const layout *l, size_t room);
@@ -84,8 +88,10 @@ uint32_t try_build(const layout *l, const lengths *n);
 extern const uint8_t *source_given;
 const uint8_t *built(void);
 
-/* fixed.c, random.c */
+/* fixed.c, longhand.c, random.c */
+void is(uint32_t got, uint32_t number);
 void fixed_cases(void);
+void longhand_cases(void);
 void random_calls(uint64_t count);
 
 #endif

@@ -1,5 +1,5 @@
 /* Cases whose numbers and answers are told here by hand, good and bad ones of each call; most values are document 01's own.
-   In order: settings and records; words; sizes and layouts; rows; frames and bytes; vast slices; all of them. */
+   In order: settings and records; words; sizes and layouts; rows; frames and bytes; vast slices; all of them, with those of longhand.c. */
 #include <stdio.h>
 #include <string.h>
 #include <sys/mman.h>
@@ -10,7 +10,7 @@
 enum { ALL = 127 };
 
 /* A number that the case names, beside what the call is held to anyway. */
-static void is(uint32_t got, uint32_t number) {
+void is(uint32_t got, uint32_t number) {
     if (got != number) failed("fixed case: %u, not %u", got, number);
 }
 
@@ -62,6 +62,7 @@ static void records(void) {
 static void refused(const layout *l) {
     lengths none = {0};
     is(try_accepted(l), 6), is(try_pack(l, 0), 6), is(try_pack(l, 1), 6), is(try_sizes(l, 0), 6), is(try_sizes(l, 2), 6);
+    is(try_longhand_write(l, 0), 6), is(try_longhand_write(l, 20), 6), is(try_longhand_write(l, 21), 6);
     is(try_regions(l, 0), 6), is(try_regions(l, 40), 6), is(try_end(l, 1), 6), is(try_needs(l, 2), 6), is(try_needs(l, 0), 6);
     is(try_clear(l, 0), 6), is(try_clear(l, 100), 6), is(try_row(l, 0, 0, 0, 0, 0), 6), is(try_row(l, SIZE_MAX, 0, 0, 0, 2), 6), is(try_build(l, &none), 6);
 }
@@ -231,8 +232,10 @@ static void front_is(const void *to, const void *value, size_t bytes, const char
 /* A slice for the answer whose count is 0 in its low 32 bits has room enough. */
 static void vast_answers(const layout *l, uint8_t *to, size_t count) {
     int32_t sizes[2], told[12];
-    size_t regions[40], end = rule_end(l), needs[2], place[2];
+    uint8_t longhand[21];
+    size_t regions[40], end = rule_end(l), needs[2], place[2], after = 0;
     uint64_t word = rule_word(l->record);
+    rule_longhand_write(l->record, 10, longhand);
     rule_sizes(l->record, sizes), rule_regions(l, regions), rule_needs(l, needs), rule_read(word, told), rule_row(l, end, 1, 0, 2, place);
     const int32_t *r = l->record;
     int32_t *numbers = (int32_t *)to;
@@ -240,11 +243,29 @@ static void vast_answers(const layout *l, uint8_t *to, size_t count) {
     is(sill_check(0, 0, 0, 0, 0, 0, 0, 0, 64, 48, numbers, count), 0), front_is(to, r, 10 * sizeof *r, "record");
     is(sill_pack_data(r, 10, (uint64_t *)to, count), 0), front_is(to, &word, sizeof word, "word");
     is(sill_read_word(word, numbers, count), 0), front_is(to, told, sizeof told, "description");
+    is(sill_longhand_write(r, 10, to, count), 0), front_is(to, longhand, sizeof longhand, "longhand record");
+    is(sill_longhand_read(longhand, 21, numbers, count, &after, 1), 0), front_is(to, r, 10 * sizeof *r, "record");
+    is(sill_longhand_read(longhand, 21, told, 10, places, count), 0), front_is(to, &after, sizeof after, "place");
     is(sill_super_sizes(r, 10, numbers, count), 0), front_is(to, sizes, sizeof sizes, "super size");
     is(sill_level_regions(r, 10, 0, 0, p, places, count), 0), front_is(to, regions, sizeof regions, "layout");
     is(sill_written_end(r, 10, 0, 0, p, places, count), 0), front_is(to, &end, sizeof end, "end");
     is(sill_needs(r, 10, 0, 0, p, places, count), 0), front_is(to, needs, sizeof needs, "need");
     is(sill_row(end, r, 10, 0, 0, p, 1, 0, 2, places, count), 0), front_is(to, place, sizeof place, "row");
+}
+
+/* A longhand record of the greatest length ends 3 bytes past 2^32, of which only length and kind are looked at. */
+static void vast_longhand(uint8_t *bytes, const void *held, size_t over) {
+    int32_t record[10];
+    size_t after = 0;
+    memset(bytes, 255, 4), bytes[4] = 2, bytes[5] = 0;
+    is(sill_longhand_read(bytes, over + 2, (int32_t *)held, 10, (size_t *)held + 5, 1), 15);
+    is(sill_longhand_read(bytes, over + 3, (int32_t *)held, 10, &after, 1), 16);
+    if (after != over + 3) failed("fixed case: another place after 2^32");
+    bytes[4] = 1, is(sill_longhand_read(bytes, over + 3, (int32_t *)held, 10, (size_t *)held + 5, 1), 17);
+    bytes[0] = 17, memset(bytes + 1, 0, 3), bytes[6] = 4, bytes[8] = 4, bytes[10] = 1, bytes[11] = 1, bytes[12] = 1;
+    is(sill_longhand_read(bytes, over, record, 10, &after, 1), 0), is((uint32_t)after, 21);
+    bytes[12] = 9, is(sill_longhand_read(bytes, over, (int32_t *)held, 10, (size_t *)held + 5, 1), 18);
+    memset(bytes, 0, 32);
 }
 
 /* Counts whose low 32 bits alone would be another length. What is refused lies in memory that can't be written. */
@@ -270,6 +291,7 @@ static void vast(void) {
     for (int k = 0; k < 3072; k++) src[k] = (uint8_t)next();
     vast_answers(&l, to, over);
     memset(to, 0, 4096);
+    vast_longhand(to, held, over);
     is(sill_build_plane(frame, 14976, spill, 16, scratch, 1280, l.record, 10, 0, 0, 64, src, 3072, 64), 0);
     uint8_t *long_src = to + over + 4096;
     memcpy(long_src, src, 3072);
@@ -282,10 +304,11 @@ void fixed_cases(void) {
     for (where = AT_START; where < SPOTS; where++) {
         checks(), records(), bad_records(), words(), alike(), sizes(), layouts(), rows(), largest(), frames(), bytes();
     }
+    longhand_cases();
     where = AMIDST;
     vast();
     uint64_t count = 0;
     for (int k = 0; k < CALLS; k++) for (int n = 0; n < 23; n++) count += met[k][n];
-    printf("door: %llu fixed calls, each slice at the start, amid and at the end of its room: as told\n", (unsigned long long)count);
+    printf("door: %llu fixed calls, slices at the start, amid and at the end of their rooms: as told\n", (unsigned long long)count);
     memset(met, 0, sizeof met);
 }

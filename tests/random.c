@@ -128,6 +128,32 @@ static void alike(void) {
     }
 }
 
+/* A record's longhand, or random bytes, of which many have a length that fits and a kind that is known; then some are changed. */
+static size_t spelled(const layout *l, uint8_t bytes[64]) {
+    size_t count = 21;
+    for (int k = 0; k < 64; k++) bytes[k] = (uint8_t)next();
+    if (below(4) == 0 || rule_longhand_write(l->record, l->count, bytes)) {
+        count = below(65);
+        if (below(8)) bytes[0] = (uint8_t)(below(2) ? 17 : count - 4), bytes[1] = bytes[2] = bytes[3] = 0;
+        if (below(2)) bytes[4] = 1, bytes[5] = 0;
+    }
+    for (int spoils = (int)below(5); spoils > 2; spoils--) {
+        uint64_t at = below(21);
+        bytes[at] = (uint8_t)(below(2) ? wild() : bytes[at] ^ 1u << below(8));
+    }
+    switch (below(8)) {
+    case 0: return below(count + 1);
+    case 1: return count + below(64 - count + 1);
+    default: return count;
+    }
+}
+
+static void longhand(const layout *l) {
+    uint8_t bytes[64];
+    size_t count = spelled(l, bytes), record_room = room(10);
+    try_longhand_read(bytes, count, record_room, room(1));
+}
+
 static void clear(void) {
     layout l = some();
     try_clear(&l, near(rule_layout(&l) ? below(300) : rule_end(&l)));
@@ -186,6 +212,8 @@ static void one(int call) {
     case PACK: try_pack(&l, room(1)); break;
     case READ: read_back(); break;
     case ALIKE: alike(); break;
+    case LONGHAND_WRITE: try_longhand_write(&l, room(21)); break;
+    case LONGHAND_READ: longhand(&l); break;
     case SIZES: try_sizes(&l, room(2)); break;
     case REGIONS: try_regions(&l, room(40)); break;
     case END: try_end(&l, room(1)); break;
@@ -198,8 +226,9 @@ static void one(int call) {
 
 /* The numbers that each call can give, as bits; 14 is no accepted record's. Of prepare_alike the two answers. */
 static const uint32_t can[CALLS] = {
-    [CHECK] = 0x803f, [ACCEPTED] = 0x41, [PACK] = 0x8041, [READ] = 0x708001, [ALIKE] = 3, [SIZES] = 0x8041, [REGIONS] = 0x81c1,
-    [END] = 0x81c1, [NEEDS] = 0x81c1, [CLEAR] = 0x9c1, [ROW] = 0x889c1, [BUILD] = 0x3fc1,
+    [CHECK] = 0x803f, [ACCEPTED] = 0x41, [PACK] = 0x8041, [READ] = 0x708001, [ALIKE] = 3, [LONGHAND_WRITE] = 0x8041,
+    [LONGHAND_READ] = 0x78001, [SIZES] = 0x8041, [REGIONS] = 0x81c1, [END] = 0x81c1, [NEEDS] = 0x81c1, [CLEAR] = 0x9c1, [ROW] = 0x889c1,
+    [BUILD] = 0x3fc1,
 };
 
 /* From so many calls on, each of those numbers has to be met. */
@@ -207,7 +236,7 @@ enum { ENOUGH = 100000 };
 
 void random_calls(uint64_t count) {
     /* A quarter of the calls are builds. */
-    for (uint64_t k = 0; k < count; k++) one(k % 16 < CALLS ? (int)(k % 16) : BUILD);
+    for (uint64_t k = 0; k < count; k++) one(k % 18 < CALLS ? (int)(k % 18) : BUILD);
     tell("numbers met");
     for (int call = 0; call < CALLS; call++) {
         printf("door: %s:", names[call]);

@@ -1,5 +1,5 @@
-/* Document 01 in plain C, written from the document alone and not from either code: settings, sizes and the table of numbers, in its order.
-   What bytes a build writes isn't here: that is the Rust's to say. */
+/* Documents 01 and 02 in plain C, written from the documents alone and not from either code: settings, words and document 02's longhand
+   record; sizes and the table of numbers, in document 01's order. What bytes a build writes isn't here: that is the Rust's to say. */
 #include <string.h>
 
 #include "door.h"
@@ -89,6 +89,49 @@ uint32_t rule_alike(uint64_t a, uint64_t b) {
     int32_t told[12];
     const uint64_t rc = (uint64_t)1 << 56, lean = (uint64_t)1 << 47;
     return !rule_read(a, told) && !rule_read(b, told) && ((a ^ b) | rc | lean) == (rc | lean);
+}
+
+/* The longhand record's numbers and how many bytes each has: length, kind, width, height, pel, gpu, flags, down, up. */
+enum { OF_LENGTH, OF_KIND, OF_WIDTH, OF_HEIGHT, OF_PEL, OF_GPU, OF_FLAGS, OF_DOWN, OF_UP, SPELLED };
+static const int spelled[SPELLED] = {4, 2, 2, 2, 1, 1, 1, 4, 4};
+
+uint32_t rule_longhand_write(const int32_t *r, size_t count, uint8_t bytes[21]) {
+    if (rule_record(r, count)) return 6;
+    uint32_t flags = (uint32_t)(r[FULL] + 2 * r[RC] + 4 * r[LEAN]);
+    uint32_t all[SPELLED] = {17, 1, (uint32_t)r[WIDTH], (uint32_t)r[HEIGHT], (uint32_t)r[PEL], (uint32_t)r[GPU], flags, (uint32_t)r[DOWN], (uint32_t)r[UP]};
+    for (int k = 0; k < SPELLED; k++) for (int n = 0; n < spelled[k]; n++) *bytes++ = (uint8_t)(all[k] >> 8 * n);
+    return 0;
+}
+
+/* The k-th of these numbers. */
+static uint32_t spells(const uint8_t *bytes, int k) {
+    uint32_t number = 0;
+    for (int before = 0; before < k; before++) bytes += spelled[before];
+    for (int n = spelled[k]; n-- > 0;) number = number * 256 + bytes[n];
+    return number;
+}
+
+/* "One record has one encoding": the contents are good if the record that they name has them for its own. */
+static uint32_t rule_contents(const uint8_t bytes[21], int32_t record[10]) {
+    uint32_t flags = spells(bytes, OF_FLAGS);
+    int32_t set[7] = {
+        (int32_t)spells(bytes, OF_PEL), (int32_t)spells(bytes, OF_GPU), (int32_t)spells(bytes, OF_DOWN), (int32_t)spells(bytes, OF_UP),
+        flags & 1, flags >> 1 & 1, flags >> 2 & 1,
+    };
+    uint8_t again[21];
+    if (rule_check(127, set, (int32_t)spells(bytes, OF_WIDTH), (int32_t)spells(bytes, OF_HEIGHT), record)) return 18;
+    return rule_longhand_write(record, 10, again) || memcmp(bytes, again, sizeof again) ? 18 : 0;
+}
+
+/* "15 bytes run short of the length field or of the length, 16 unknown kind, 17 length isn't the kind's or is below 2, 18 ..; in that
+   order, but a length below 2 is 17 before any kind is read." The place is told with 0 and 16. */
+uint32_t rule_longhand_read(const uint8_t *bytes, size_t count, int32_t record[10], size_t *after) {
+    if (count < 4 || spells(bytes, OF_LENGTH) > count - 4) return 15;
+    uint32_t length = spells(bytes, OF_LENGTH);
+    if (length < 2) return 17;
+    *after = 4 + (size_t)length;
+    if (spells(bytes, OF_KIND) != 1) return 16;
+    return length != 17 ? 17 : rule_contents(bytes, record);
 }
 
 void rule_sizes(const int32_t r[10], int32_t sizes[2]) {

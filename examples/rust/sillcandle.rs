@@ -7,6 +7,8 @@ mod sill {
     unsafe extern "C" {
         pub fn sill_check(given: u32, pel: i32, gpu: i32, down: i32, up: i32, full: i32, rc: i32, lean: i32, width: i32, height: i32, record: *mut i32, count: usize) -> u32;
         pub fn sill_pack_data(record: *const i32, count: usize, word: *mut u64, word_count: usize) -> u32;
+        pub fn sill_longhand_write(record: *const i32, count: usize, bytes: *mut u8, bytes_count: usize) -> u32;
+        pub fn sill_longhand_read(bytes: *const u8, bytes_count: usize, record: *mut i32, count: usize, after: *mut usize, after_count: usize) -> u32;
         pub fn sill_written_end(record: *const i32, count: usize, x_shift: u32, y_shift: u32, pitch: usize, end: *mut usize, end_count: usize) -> u32;
         pub fn sill_needs(record: *const i32, count: usize, x_shift: u32, y_shift: u32, pitch: usize, needs: *mut usize, needs_count: usize) -> u32;
         pub fn sill_row(frame_length: usize, record: *const i32, count: usize, x_shift: u32, y_shift: u32, pitch: usize, level: u32, plane: usize, y: usize, place: *mut usize, place_count: usize) -> u32;
@@ -14,7 +16,7 @@ mod sill {
     }
 }
 
-/// Document 01's number, which is never 0.
+/// The number of documents 01 and 02, which is never 0.
 #[derive(Clone, Copy, Debug, PartialEq, Eq)]
 pub struct Refused(pub u32);
 
@@ -34,9 +36,17 @@ pub struct Settings {
     pub lean: Option<bool>,
 }
 
-/// A record that the check gave.
+/// A record that the check gave, or that was read back.
 #[derive(Clone, Copy, Debug, PartialEq, Eq)]
 pub struct Record([i32; 10]);
+
+/// What stands at the front of some bytes, and the place after it.
+#[derive(Clone, Copy, Debug, PartialEq, Eq)]
+pub enum Longhand {
+    Record { record: Record, after: usize },
+    /// A kind that isn't known, which is number 16.
+    Unknown { after: usize },
+}
 
 impl Record {
     pub fn check(s: Settings, width: i32, height: i32) -> Result<Self, Refused> {
@@ -55,6 +65,24 @@ impl Record {
         // SAFETY: a record of ten, and one number lent for the answer.
         done(unsafe { sill::sill_pack_data(self.0.as_ptr(), self.0.len(), &mut word, 1) })?;
         Ok(word)
+    }
+
+    pub fn longhand(&self) -> Result<[u8; 21], Refused> {
+        let mut bytes = [0; 21];
+        // SAFETY: a record of ten, and 21 bytes lent for the answer.
+        done(unsafe { sill::sill_longhand_write(self.0.as_ptr(), self.0.len(), bytes.as_mut_ptr(), bytes.len()) })?;
+        Ok(bytes)
+    }
+
+    pub fn read_longhand(bytes: &[u8]) -> Result<Longhand, Refused> {
+        let (mut record, mut after) = ([0; 10], 0);
+        // SAFETY: the bytes' own count, and ten numbers and one lent for the answers.
+        let number = unsafe { sill::sill_longhand_read(bytes.as_ptr(), bytes.len(), record.as_mut_ptr(), record.len(), &mut after, 1) };
+        if number == 16 {
+            return Ok(Longhand::Unknown { after });
+        }
+        done(number)?;
+        Ok(Longhand::Record { record: Self(record), after })
     }
 }
 
@@ -118,6 +146,13 @@ fn main() {
     let settings = Settings { pel: Some(1), ..Settings::default() };
     let record = Record::check(settings, 8, 8).expect("pel 1 at 8x8");
     println!("word {:016x}", record.word().expect("an accepted record"));
+    let mut longhand = record.longhand().expect("an accepted record");
+    println!("longhand {longhand:?}");
+    assert_eq!(Record::read_longhand(&longhand), Ok(Longhand::Record { record, after: 21 }));
+    assert_eq!(Record::read_longhand(&longhand[..20]), Err(Refused(15)));
+    longhand[4] = 2;
+    println!("kind 2: {:?}", Record::read_longhand(&longhand));
+    assert_eq!(Record::read_longhand(&longhand), Ok(Longhand::Unknown { after: 21 }));
     let source: Vec<u8> = (0..64).map(|i| 3 * i).collect();
     let plane = Layout { record, shifts: (0, 0), pitch: 16 }.build(&source, 8).expect("a source of 64 bytes");
     for y in 0.. {

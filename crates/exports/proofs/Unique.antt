@@ -1,6 +1,7 @@
--- One outcome: no second number and no other lent slice meets the contract of an exported call (`OneOutcome`), by one law (`settled`). What is seen of a call is its number with the slice that it writes. Assumes nothing.
+-- One outcome: no second number and no other lent slice meets the contract of an exported call (`OneOutcome`), by one law (`settled`). What is seen of a call is its number with each slice that it writes. Assumes nothing.
 use mathlib.Core.List.{List}
 use Prim.Native.Nat.{ℕ}
+use lib.IntN.{ℤ}
 use contract.Lifetimes.{Lfts}
 use denote.Ref.{now}
 use Rattle.settings.specs.Answers.{Answer, answer}
@@ -11,6 +12,8 @@ use Rattle.exports.proofs.words.sill_pack_data.Reads as sill-pack-data-
 use Rattle.exports.proofs.words.sill_read_word.Reads as sill-read-word-reads
 use Rattle.exports.proofs.words.sill_prepare_alike.Reads as sill-prepare-alike-reads
 use Rattle.exports.proofs.words.sill_super_sizes.Reads as sill-super-sizes-reads
+use Rattle.exports.proofs.longhand.sill_longhand_write.Reads as sill-longhand-write-reads
+use Rattle.exports.proofs.longhand.sill_longhand_read.Reads as sill-longhand-read-reads
 use Rattle.exports.proofs.planes.sill_level_regions.Reads as sill-level-regions-reads
 use Rattle.exports.proofs.planes.sill_written_end.Reads as sill-written-end-reads
 use Rattle.exports.proofs.planes.sill_needs.Reads as sill-needs-reads
@@ -35,6 +38,13 @@ sill-prepare-alike-unique κs x r s e f p q = settled itself p q
 
 pub sill-super-sizes-unique : (κs : Lfts 2) → OneOutcome (sill-super-sizes-reads.Post κs) (λ r e. answer r (now (e .1 .0)))
 sill-super-sizes-unique κs x r s e f p q = settled itself p q
+
+pub sill-longhand-write-unique : (κs : Lfts 2) → OneOutcome (sill-longhand-write-reads.Post κs) (λ r e. answer r (now (e .1 .0)))
+sill-longhand-write-unique κs x r s e f p q = settled itself p q
+
+-- with the record's numbers and with the place
+pub sill-longhand-read-unique : (κs : Lfts 3) → OneOutcome {O = Answer (List ℤ) × Answer (List ℕ)} (sill-longhand-read-reads.Post κs) (λ r e. (answer r (now (e .1 .0)), answer r (now (e .1 .1 .0))))
+sill-longhand-read-unique κs x r s e f p q = rw (settled itself (p .0) (q .0), settled itself (p .1) (q .1))
 
 pub sill-level-regions-unique : (κs : Lfts 2) → OneOutcome (sill-level-regions-reads.Post κs) (λ r e. answer r (now (e .1 .1 .1 .1 .0)))
 sill-level-regions-unique κs x r s e f p q = settled itself p q

@@ -1,8 +1,8 @@
--- The number of each call, and what it leaves in the slice that is lent for its answer. "The lowest number that applies is given, and none other"; "no refusal changes a lent byte".
-use mathlib.Core.Bool.{Bool, cond, _&&_}
+-- The number of each call, and what it leaves in the slices that are lent for its answer. "The lowest number that applies is given, and none other"; "no refusal changes a lent byte".
+use mathlib.Core.Bool.{Bool, cond, _&&_, _||_}
 use mathlib.Core.List.{List, [], _∷_}
 use Prim.Native.Nat.{ℕ}
-use lib.Dec.{leb, ltb}
+use lib.Dec.{eqb, leb, ltb}
 use lib.IntN.{ℤ, pos}
 use lib.ListN.{length}
 use Rattle.settings.specs.declared.super_opts.Settings.{Settings}
@@ -10,7 +10,9 @@ use Rattle.settings.specs.declared.super_opts.SuperOpts.{SuperOpts}
 use Rattle.settings.specs.Check.{settled, settingsNo, recordNo, superHeight, superWidth}
 use Rattle.settings.specs.Word.{packNo, wordOf}
 use Rattle.settings.specs.Reading.{candidate, readNo, describe}
-use Rattle.settings.specs.Answers.{Answer, complete, written}
+use Rattle.settings.specs.Answers.{Answer, answer, complete, written}
+use Rattle.settings.specs.Kind1.{kind1Record}
+use Rattle.settings.specs.Longhand.{bodyOf, placeAfter, longhandNo}
 use Rattle.builder.specs.declared.layout.Layout.{Layout}
 use Rattle.builder.specs.Layout.{levelsOf, regionOr, writtenEnd}
 use Rattle.builder.specs.Numbers.{layoutNo, rowNo}
@@ -50,3 +52,15 @@ needsTells q = tells (layoutNo q) (needNumbers (needsOf q))
 -- row y of plane k of level l, in a frame of len bytes
 abbrev pub rowTells : Layout → ℕ → ℕ → ℕ → ℕ → List ℕ → Answer (List ℕ)
 rowTells q len l k y = tells (rowNo q len l k y) (runNumbers (runOf q l k y))
+
+-- ---- a longhand record read: two slices are lent for the answer
+abbrev pub longhandReadNo : List ℕ → List ℤ → List ℕ → ℕ
+longhandReadNo l fields after = lowest (longhandNo l) (ltb (length fields) 10 || ltb (length after) 1)
+
+-- what a call of number n leaves of the first: the record's numbers
+abbrev pub fieldsTells : ℕ → List ℕ → List ℤ → Answer (List ℤ)
+fieldsTells n l fields = complete n (written (numbersOf (kind1Record (bodyOf l))) fields) fields
+
+-- and of the second: "A refused read gives zeros and, but for 16, place 0"; here nothing where there is no place
+abbrev pub placeTells : ℕ → List ℕ → List ℕ → Answer (List ℕ)
+placeTells n l after = answer n (cond (eqb n 0 || eqb n 16) (written (placeAfter l ∷ []) after) after)

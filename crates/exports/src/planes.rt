@@ -1,12 +1,13 @@
 // A plane of a frame: where its levels and rows lie, what a build needs, clearing margins, and the build.
 ghost use mathlib.Core.Path.{_≡_};
-ghost use Rattle.settings.specs.Answers.{answer, tested};
+ghost use Rattle.settings.specs.Answers.{answer};
 ghost use Rattle.builder.specs.Answers.{clearAnswer, planeNo, buildAnswer, lentAfter};
 ghost use Rattle.exports.specs.Numbers.{layoutOf};
 ghost use Rattle.exports.specs.Answers.{regionsTells, endTells, needsTells, rowTells};
 use crate::record::layout_of;
 use crate::room::COLUMNS;
 use crate::room::lowest;
+use crate::room::number;
 use crate::room::put_columns;
 use crate::room::put_sizes;
 use builder::build::build_plane;
@@ -16,15 +17,6 @@ use builder::margins::clear_margins;
 use builder::rows::Placed;
 use builder::rows::row_place;
 use settings::refusal::Tested;
-
-fn number(t: Tested) -> u32
-    ensures { λ r. ⌜ r ≡ tested t ⌝ }
-{
-    match t {
-        Tested::Fine => 0,
-        Tested::Refused(f) => f.number(),
-    }
-}
 
 // Tells the count of levels, then 13 offsets, widths and heights. Refusals 6, 7, 8, 15.
 #[no_mangle]

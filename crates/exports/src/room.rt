@@ -1,17 +1,18 @@
 // An answer put at the front of a lent slice, and its number: 15 where the slice is too short, which comes after 1 to 14 and before the rest.
-// First the number of a refusal; then numbers, a word and sizes put; last a layout's regions.
+// First the numbers of a test and of a refusal; then numbers, a word and sizes put; last a layout's regions.
 ghost use mathlib.Core.Path.{_≡_};
 ghost use mathlib.Core.List.{[], _∷_, _++_};
 ghost use Prim.Native.Nat.{_+_, _≤_};
 ghost use lib.Dec.{ltb};
 ghost use lib.ListN.{length, take, drop};
 ghost use Rattle.settings.specs.Limits.{mostLevels};
-ghost use Rattle.settings.specs.Answers.{answer, number};
+ghost use Rattle.settings.specs.Answers.{answer, number, tested};
 ghost use Rattle.exports.specs.Answers.{lowest, tells};
 use settings::limits::MOST_LEVELS;
 use settings::refusal::Refusal;
+use settings::refusal::Tested;
 
-const TOO_SHORT: u32 = 15;
+pub const TOO_SHORT: u32 = 15;
 
 // Where the offsets, widths and heights of a layout's regions begin, after their count, and how many numbers these are.
 const OFFSETS: usize = 1;
@@ -21,6 +22,15 @@ const WIDTHS: usize = OFFSETS + MOST_LEVELS;
 const HEIGHTS: usize = WIDTHS + MOST_LEVELS;
 
 pub const COLUMNS: usize = HEIGHTS + MOST_LEVELS;
+
+pub fn number(t: Tested) -> u32
+    ensures { λ r. ⌜ r ≡ tested t ⌝ }
+{
+    match t {
+        Tested::Fine => 0,
+        Tested::Refused(f) => f.number(),
+    }
+}
 
 // The number where a call refuses by f, its answer has need numbers and len are lent for it.
 pub fn lowest(f: Refusal, len: usize, need: usize) -> u32

@@ -2,8 +2,8 @@
 use mathlib.Core.Path.{sym, ap, _∙_}
 use borrow.Author.Needs.{needs}
 use Rattle.settings.specs.Answers.{tested}
-use Rattle.exports.proofs.planes.number.Statement.{statement}
-use Rattle.exports.proofs.planes.number.Tie as tie
+use Rattle.exports.proofs.room.number.Statement.{statement}
+use Rattle.exports.proofs.room.number.Tie as tie
 
 enum-told : tie.Need-enum-told
 enum-told c = search needs

@@ -1,0 +1,49 @@
+// A record spelled out as bytes: document 02's longhand record, written and read.
+ghost use mathlib.Core.Path.{_≡_};
+ghost use Rattle.settings.specs.Answers.{answer};
+ghost use Rattle.settings.specs.Longhand.{writeAnswer};
+ghost use Rattle.exports.specs.Numbers.{recordOf};
+ghost use Rattle.exports.specs.Answers.{longhandReadNo, fieldsTells, placeTells};
+use crate::record::FIELDS;
+use crate::record::numbers_of;
+use crate::record::record_of;
+use crate::room::TOO_SHORT;
+use crate::room::number;
+use crate::room::put_numbers;
+use crate::room::put_sizes;
+use settings::longhand::Read;
+use settings::longhand::UNKNOWN_KIND;
+use settings::longhand::read_longhand;
+use settings::longhand::write_longhand;
+
+// Refusals 6, 15.
+#[no_mangle]
+pub extern "C" fn sill_longhand_write(fields: &[i32], bytes: &mut [u8]) -> u32
+    ensures { λ r. ⌜ answer r (now (bytes .exit)) ≡ writeAnswer (recordOf (now (fields .entry))) (now (bytes .entry)) ⌝ }
+{
+    let opts = record_of(fields);
+    number(write_longhand(opts, bytes))
+}
+
+// Tells the record's numbers, and the place after it; with 16 the place alone. Refusals 15 to 18.
+#[no_mangle]
+pub extern "C" fn sill_longhand_read(bytes: &[u8], fields: &mut [i32], after: &mut [usize]) -> u32
+    ensures { λ r. ⌜
+        (answer r (now (fields .exit)) ≡ fieldsTells (longhandReadNo (now (bytes .entry)) (now (fields .entry)) (now (after .entry))) (now (bytes .entry)) (now (fields .entry)))
+        × (answer r (now (after .exit)) ≡ placeTells (longhandReadNo (now (bytes .entry)) (now (fields .entry)) (now (after .entry))) (now (bytes .entry)) (now (after .entry))) ⌝ }
+{
+    if (fields.len() < FIELDS) | (after.len() < 1) {
+        return TOO_SHORT;
+    }
+    match read_longhand(bytes) {
+        Read::Record(read) => {
+            put_numbers(fields, &numbers_of(read.opts));
+            put_sizes(after, &[read.after])
+        }
+        Read::Unknown(place) => {
+            put_sizes(after, &[place]);
+            UNKNOWN_KIND
+        }
+        Read::Refused(f) => f.number(),
+    }
+}
