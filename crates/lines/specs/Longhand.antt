@@ -85,12 +85,12 @@ writtenText a = decimal (a .no) ++ cond (eqb (a .no) 0) (spaced (hexText (a .val
 unfoldable pub checkedText : Answer SuperOpts → List ℕ
 checkedText a = cond (eqb (a .no) 0) (writtenText (writeAnswer (a .value) (replicate 21 0))) (decimal (a .no))
 
-abbrev pub askedText : List ℕ → List ℕ
-askedText l = checkedText (checkAnswer (askedSettings l) (askedSide l 0) (askedSide l 1))
+abbrev pub askedAnswer : List ℕ → Answer SuperOpts
+askedAnswer l = checkAnswer (askedSettings l) (askedSide l 0) (askedSide l 1)
 
 -- ---- the line; `-` for any other
 unfoldable pub answerText : List ℕ → List ℕ
-answerText l = cond (isRecord l) (readText (longhandAnswer (bytesOf l))) (cond (isAsked l) (askedText l) (45 ∷ []))
+answerText l = cond (isRecord l) (readText (longhandAnswer (bytesOf l))) (cond (isAsked l) (checkedText (askedAnswer l)) (45 ∷ []))
 
 abbrev pub longhandLine : List ℕ → List ℕ
 longhandLine l = answerText l ++ (10 ∷ [])

@@ -2,10 +2,14 @@
 // First the bytes that digits spell; then the settings of a line; then the text of a record; last `longhand_line`, a whole line.
 ghost use mathlib.Core.Path.{_≡_};
 ghost use mathlib.Core.Bool.{true};
+ghost use mathlib.Core.List.{_++_};
 ghost use Prim.Native.Nat.{_+_, _*_, _/_, _≤_};
 ghost use lib.ListN.{length, replicate, take};
-ghost use Rattle.lines.specs.Text.{allDigits, room, shown, Appended};
-ghost use Rattle.lines.specs.Longhand.{isRecord, bytesOf, areSizes, areNumbers, areFlags, isAsked, askedSide, askedSettings, optsText, packedWord, wordText, readText, writtenText, askedText, answerText, longhandLine};
+ghost use Rattle.lines.specs.Text.{allDigits, decimal, spaced, hexText, room, shown, Appended};
+ghost use Rattle.lines.specs.Parting.{fieldAt};
+ghost use Rattle.lines.specs.Fields.{intOf, flagOf};
+ghost use Rattle.lines.specs.Longhand.{isRecord, bytesOf, areSizes, areNumbers, areFlags, isAsked, askedSide, askedSettings, optsText, packedWord, wordText, readText, writtenText, checkedText, askedAnswer, answerText, longhandLine};
+ghost use Rattle.settings.specs.Answers.{number, checked};
 ghost use Rattle.settings.specs.Longhand.{readAs, longhandAnswer, writeAnswer};
 use crate::fields::flag_of;
 use crate::fields::int_of;
@@ -20,10 +24,14 @@ use crate::text::Line;
 use crate::text::all_digits;
 use crate::text::hex_of;
 use settings::longhand::Read;
+use settings::longhand::UNKNOWN_KIND;
 use settings::longhand::read_longhand;
 use settings::longhand::write_longhand;
+use settings::refusal::Refusal;
 use settings::refusal::Tested;
 use settings::super_opts::Checked;
+use settings::super_opts::OptBool;
+use settings::super_opts::OptInt;
 use settings::super_opts::Packed;
 use settings::super_opts::Settings;
 use settings::super_opts::SuperOpts;
@@ -47,10 +55,22 @@ fn spell(line: &[u8], out: &mut [u8])
     }
 }
 
+fn int_at(line: &[u8], k: usize) -> OptInt
+    ensures { λ r. ⌜ r ≡ intOf (fieldAt (now (line .entry)) k) ⌝ }
+{
+    int_of(field_at(line, k))
+}
+
+fn flag_at(line: &[u8], k: usize) -> OptBool
+    ensures { λ r. ⌜ r ≡ flagOf (fieldAt (now (line .entry)) k) ⌝ }
+{
+    flag_of(field_at(line, k))
+}
+
 fn are_sizes(line: &[u8]) -> bool
     ensures { λ r. ⌜ r ≡ areSizes (now (line .entry)) ⌝ }
 {
-    is_given(int_of(field_at(line, 0))) & is_given(int_of(field_at(line, 1)))
+    is_given(int_at(line, 0)) & is_given(int_at(line, 1))
 }
 
 fn are_numbers(line: &[u8]) -> bool
@@ -77,21 +97,29 @@ fn is_asked(line: &[u8]) -> bool
 fn asked_side(line: &[u8], k: usize) -> i32
     ensures { λ r. ⌜ r ≡ askedSide (now (line .entry)) k ⌝ }
 {
-    or_zero(int_of(field_at(line, k)))
+    or_zero(int_at(line, k))
 }
 
 fn asked_settings(line: &[u8]) -> Settings
     ensures { λ r. ⌜ r ≡ askedSettings (now (line .entry)) ⌝ }
 {
     Settings {
-        pel: int_of(field_at(line, 2)),
-        gpu: int_of(field_at(line, 3)),
-        down: int_of(field_at(line, 7)),
-        up: int_of(field_at(line, 8)),
-        full: flag_of(field_at(line, 4)),
-        rc: flag_of(field_at(line, 5)),
-        lean: flag_of(field_at(line, 6)),
+        pel: int_at(line, 2),
+        gpu: int_at(line, 3),
+        down: int_at(line, 7),
+        up: int_at(line, 8),
+        full: flag_at(line, 4),
+        rc: flag_at(line, 5),
+        lean: flag_at(line, 6),
     }
+}
+
+fn checked(line: &[u8]) -> Checked
+    ensures { λ r. ⌜ checked r ≡ askedAnswer (now (line .entry)) ⌝ }
+{
+    let width = asked_side(line, 0);
+    let height = asked_side(line, 1);
+    SuperOpts::from_opt(asked_settings(line), width, height)
 }
 
 // A record's word; 0 where it isn't packed.
@@ -125,6 +153,27 @@ impl Line {
         self.with_byte(b' ').with_hex(packed_word(opts), 16)
     }
 
+    fn with_spelled(self, opts: SuperOpts) -> Line
+        requires { ⌜ self .len + 212 ≤ room ⌝ }
+        ensures { λ r. ⌜ Appended self r (optsText opts ++ wordText opts) 212 ⌝ }
+    {
+        self.with_opts(opts).with_packed_word(opts)
+    }
+
+    fn with_place(self, no: u64, after: usize) -> Line
+        requires { ⌜ self .len + 41 ≤ room ⌝ }
+        ensures { λ r. ⌜ Appended self r (decimal no ++ spaced (decimal after)) 41 ⌝ }
+    {
+        self.with_decimal(no).with_number(after as u64)
+    }
+
+    fn with_refused(self, f: Refusal) -> Line
+        requires { ⌜ self .len + 20 ≤ room ⌝ }
+        ensures { λ r. ⌜ Appended self r (decimal (number f)) 20 ⌝ }
+    {
+        self.with_decimal(f.number() as u64)
+    }
+
     fn with_read(self, r: Read) -> Line
         requires { ⌜ self .len + 253 ≤ room ⌝ }
         ensures { λ a. ⌜ Appended self a (readText (readAs r)) 253 ⌝ }
@@ -132,13 +181,10 @@ impl Line {
         match r {
             Read::Record(h) => {
                 let opts = h.opts;
-                self.with_decimal(0)
-                    .with_number(h.after as u64)
-                    .with_opts(opts)
-                    .with_packed_word(opts)
+                self.with_place(0, h.after).with_spelled(opts)
             }
-            Read::Unknown(after) => self.with_decimal(16).with_number(after as u64),
-            Read::Refused(f) => self.with_decimal(f.number() as u64),
+            Read::Unknown(after) => self.with_place(UNKNOWN_KIND as u64, after),
+            Read::Refused(f) => self.with_refused(f),
         }
     }
 
@@ -152,26 +198,31 @@ impl Line {
         self.with_read(read_longhand(&bytes[..n]))
     }
 
+    fn with_written_bytes(self, bytes: &[u8]) -> Line
+        requires { ⌜ (self .len + 63 ≤ room) × (length (now bytes) ≤ 21) ⌝ }
+        ensures { λ r. ⌜ Appended self r (decimal 0 ++ spaced (hexText (now (bytes .entry)))) 63 ⌝ }
+    {
+        self.with_decimal(0).with_byte(b' ').with_hex_bytes(bytes)
+    }
+
     fn with_written(self, opts: SuperOpts) -> Line
         requires { ⌜ self .len + 63 ≤ room ⌝ }
         ensures { λ r. ⌜ Appended self r (writtenText (writeAnswer opts (replicate 21 0))) 63 ⌝ }
     {
         let mut bytes = [0u8; RECORD];
         match write_longhand(opts, &mut bytes) {
-            Tested::Fine => self.with_decimal(0).with_byte(b' ').with_hex_bytes(&bytes),
-            Tested::Refused(f) => self.with_decimal(f.number() as u64),
+            Tested::Fine => self.with_written_bytes(&bytes),
+            Tested::Refused(f) => self.with_refused(f),
         }
     }
 
-    fn with_asked(self, line: &[u8]) -> Line
+    fn with_checked(self, c: Checked) -> Line
         requires { ⌜ self .len + 63 ≤ room ⌝ }
-        ensures { λ r. ⌜ Appended self r (askedText (now (line .entry))) 63 ⌝ }
+        ensures { λ r. ⌜ Appended self r (checkedText (checked c)) 63 ⌝ }
     {
-        let width = asked_side(line, 0);
-        let height = asked_side(line, 1);
-        match SuperOpts::from_opt(asked_settings(line), width, height) {
+        match c {
             Checked::Accepted(opts) => self.with_written(opts),
-            Checked::Refused(f) => self.with_decimal(f.number() as u64),
+            Checked::Refused(f) => self.with_refused(f),
         }
     }
 
@@ -183,7 +234,7 @@ impl Line {
             return self.with_record(line);
         }
         if is_asked(line) {
-            return self.with_asked(line);
+            return self.with_checked(checked(line));
         }
         self.with_byte(b'-')
     }

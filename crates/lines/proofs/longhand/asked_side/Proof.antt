@@ -4,17 +4,14 @@ use borrow.Author.Needs.{needs}
 use Rattle.lines.proofs.longhand.asked_side.Statement.{statement}
 use Rattle.lines.proofs.longhand.asked_side.Tie as tie
 
-field-at-requires : tie.Need-field-at-requires
-field-at-requires c κs = search needs
-
-int-of-requires : tie.Need-int-of-requires
-int-of-requires c κs = search needs
+int-at-requires : tie.Need-int-at-requires
+int-at-requires c κs = search needs
 
 or-zero-requires : tie.Need-or-zero-requires
 or-zero-requires c κs = search needs
 
 returns : tie.Need-returns
-returns c = rw (same (c .or-zero .result) (search needs), c .or-zero .ensures, c .before .int-of .ensures, c .before .before .field-at .ensures)
+returns c = rw (same (c .or-zero .result) (search needs), c .or-zero .ensures, c .before .int-at .ensures)
 
 pub asked-side-spec : {M : Type 1} → statement M
-asked-side-spec = tie.close (tie.spec field-at-requires int-of-requires or-zero-requires returns)
+asked-side-spec = tie.close (tie.spec int-at-requires or-zero-requires returns)

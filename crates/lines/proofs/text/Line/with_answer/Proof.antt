@@ -1,8 +1,8 @@
 -- `with_answer` meets its contract. Assumes nothing.
+use mathlib.Core.Path.{sym, ap, _∙_}
 use native.Mathlib.Omega.{arith}
-use Rattle.lines.specs.Longhand.{answerText}
+use Rattle.lines.specs.Longhand.{checkedText, answerText}
 use Rattle.lines.proofs.Lines.{said, wider}
-use mathlib.Core.Path.{sym, _∙_}
 use borrow.Author.Needs.{needs}
 use Rattle.lines.proofs.text.Line.with_answer.Statement.{statement}
 use Rattle.lines.proofs.text.Line.with_answer.Tie as tie
@@ -20,15 +20,18 @@ returns c = said (rw (sym (c .before .before .is-record .ensures) ∙ c .before 
 is-asked-requires : tie.Need-is-asked-requires
 is-asked-requires c κs = search needs
 
-with-asked-requires : tie.Need-with-asked-requires
-with-asked-requires c κs = search needs
+checked-requires : tie.Need-checked-requires
+checked-requires c κs = search needs
+
+with-checked-requires : tie.Need-with-checked-requires
+with-checked-requires c κs = search needs
 
 returns-2 : tie.Need-returns-2
 unfolding answerText
 returns-2 c =
-    let a = c .before .before in
+    let a = c .before .before .before in
     let r = a .before in
-    said (rw (sym (r .before .is-record .ensures) ∙ r .if1 .left, sym (a .is-asked .ensures) ∙ c .before .if2 .taken)) (wider 253 (omega arith) (c .with-asked .ensures))
+    said (rw (sym (r .before .is-record .ensures) ∙ r .if1 .left, sym (a .is-asked .ensures) ∙ c .before .before .if2 .taken) (ap checkedText (c .before .checked .ensures))) (wider 253 (omega arith) (c .with-checked .ensures))
 
 with-byte-requires : tie.Need-with-byte-requires
 with-byte-requires c κs = search needs
@@ -48,7 +51,8 @@ with-answer-spec =
     with-record-requires
     returns
     is-asked-requires
-    with-asked-requires
+    checked-requires
+    with-checked-requires
     returns-2
     with-byte-requires
     returns-3)

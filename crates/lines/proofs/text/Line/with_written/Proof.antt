@@ -1,15 +1,19 @@
 -- `with_written` meets its contract. Assumes nothing.
-use mathlib.Core.Path.{sym, ap, _∙_}
+use mathlib.Core.Path.{_≡_, sym, ap, _∙_}
 use native.Mathlib.Omega.{arith}
+use lib.ListN.{replicate}
 use Rattle.settings.specs.declared.refusal.Tested.{Tested}
 use Rattle.settings.specs.Answers.{answer, tested}
-use Rattle.lines.specs.Text.{decimal}
+use Rattle.settings.specs.Longhand.{writeAnswer}
 use Rattle.lines.specs.Longhand.{writtenText}
-use Rattle.lines.proofs.Lines.{_after_, said, wider}
+use Rattle.lines.proofs.Lines.{said, wider}
 use Rattle.lines.proofs.Answered.{written-fine, written-refused}
 use borrow.Author.Needs.{needs}
 use Rattle.lines.proofs.text.Line.with_written.Statement.{statement}
 use Rattle.lines.proofs.text.Line.with_written.Tie as tie
+
+written : (c : tie.After-write-longhand) {t : Tested} → c .write-longhand .result ≡ t → writtenText (answer (tested t) (c .write-longhand .last .1 .0)) ≡ writtenText (writeAnswer (c .before .before .args .opts) (replicate 21 0))
+written c e = ap writtenText (ap (λ (x : Tested). answer (tested x) (c .write-longhand .last .1 .0)) (sym e) ∙ c .write-longhand .ensures)
 
 slice-aggregate-write-longhand : tie.Need-slice-aggregate-write-longhand
 slice-aggregate-write-longhand c = search needs
@@ -20,42 +24,28 @@ write-longhand-requires c κs = search needs
 enum-told : tie.Need-enum-told
 enum-told c = search needs
 
-with-decimal-requires : tie.Need-with-decimal-requires
-with-decimal-requires c κs = search needs
+slice-aggregate-with-written-bytes : tie.Need-slice-aggregate-with-written-bytes
+slice-aggregate-with-written-bytes c = search needs
 
-with-byte-requires : tie.Need-with-byte-requires
-with-byte-requires c κs = search needs
-
-slice-aggregate-with-hex-bytes : tie.Need-slice-aggregate-with-hex-bytes
-slice-aggregate-with-hex-bytes c = search needs
-
-with-hex-bytes-requires : tie.Need-with-hex-bytes-requires
-with-hex-bytes-requires c κs = search needs
+with-written-bytes-requires : tie.Need-with-written-bytes-requires
+with-written-bytes-requires c κs = search needs
 
 enum-known-f : tie.Need-enum-known-f
 enum-known-f c = search needs
 
-number-requires : tie.Need-number-requires
-number-requires c κs = search needs
-
-cast-with-decimal : tie.Need-cast-with-decimal
-cast-with-decimal c = search needs
-
-with-decimal-requires-2 : tie.Need-with-decimal-requires-2
-with-decimal-requires-2 c κs = search needs
+with-refused-requires : tie.Need-with-refused-requires
+with-refused-requires c κs = search needs
 
 returns : tie.Need-returns
 returns c =
-    let w = c .before .before .before .before .before .before .before in
-    said (written-fine (w .write-longhand .last .1 .0) ∙ ap writtenText (ap (λ (t : Tested). answer (tested t) (w .write-longhand .last .1 .0)) (sym (c .before .before .before .before .enum-told .given .1)) ∙ w .write-longhand .ensures))
-    (wider 63 (omega arith) ((c .with-hex-bytes .ensures after c .before .before .with-byte .ensures) after c .before .before .before .with-decimal .ensures))
+    let w = c .before .before .before .before .before in
+    said (written-fine (w .write-longhand .last .1 .0) ∙ written w (c .before .before .enum-told .given .1)) (c .with-written-bytes .ensures)
 
 returns-2 : tie.Need-returns-2
 returns-2 c =
-    let w = c .before .before .before .before .before .before in
-    let f = c .before .before .before .f .given in
-    said (ap decimal (c .before .number .ensures) ∙ written-refused (f .0 .0) (w .write-longhand .last .1 .0) ∙ ap writtenText (ap (λ (t : Tested). answer (tested t) (w .write-longhand .last .1 .0)) (sym (f .1)) ∙ w .write-longhand .ensures))
-    (wider 63 (omega arith) (c .with-decimal2 .ensures))
+    let w = c .before .before .before .before .before in
+    let f = c .before .before .f .given in
+    said (written-refused (f .0 .0) (w .write-longhand .last .1 .0) ∙ written w (f .1)) (wider 63 (omega arith) (c .with-refused .ensures))
 
 pub with-written-spec : {M : Type 1} → statement M
 with-written-spec =
@@ -64,13 +54,9 @@ with-written-spec =
     slice-aggregate-write-longhand
     write-longhand-requires
     enum-told
-    with-decimal-requires
-    with-byte-requires
-    slice-aggregate-with-hex-bytes
-    with-hex-bytes-requires
+    slice-aggregate-with-written-bytes
+    with-written-bytes-requires
     enum-known-f
-    number-requires
-    cast-with-decimal
-    with-decimal-requires-2
+    with-refused-requires
     returns
     returns-2)
