@@ -1,5 +1,5 @@
 // The lines of the program `longhand`: a longhand record in hexadecimal is read, and settings are written as one.
-// First the bytes that digits spell; then the settings of a line; then the text of a record; last `longhand_line`, a whole line.
+// First the bytes that digits spell; then the settings of a line; then the text of each answer; last `longhand_line`, a whole line.
 ghost use mathlib.Core.Path.{_≡_};
 ghost use mathlib.Core.Bool.{true};
 ghost use mathlib.Core.List.{_++_};
