@@ -31,7 +31,7 @@ use Rattle.filters.proofs.halving.cubic_rest.Reads as cubic-rest-reads
 use Rattle.filters.proofs.half_pel.HalfPel.from_option.Reads as half-pel-from-option-reads
 use Rattle.filters.proofs.half_pel.HalfPel.vertical.Reads as half-vertical-reads
 use Rattle.filters.proofs.half_pel.HalfPel.horizontal.Reads as half-horizontal-reads
-pub use Rattle.settings.proofs.Unique.{from-opt-unique, accepted-unique, pack-data-unique, super-height-unique, super-width-unique, read-word-unique, prepare-alike-unique, reduce-dim-unique, naturals-unique, number-unique, then-refuse-unique, is-fine-unique, natural-unique, bit-unique, to-bits-unique, from-bits-unique, levels-of-unique, read-longhand-unique, write-longhand-unique}
+pub use Rattle.settings.proofs.Unique.{from-opt-unique, accepted-unique, pack-data-unique, super-height-unique, super-width-unique, read-word-unique, prepare-alike-unique, reduce-dim-unique, naturals-unique, number-unique, then-refuse-unique, is-fine-unique, natural-unique, bit-unique, to-bits-unique, from-bits-unique, read-longhand-unique, write-longhand-unique}
 
 -- ---- the rows of `filters`
 pub mean-unique : (κs : Lfts 0) → OneOutcome (mean-reads.Post κs) (λ r e. r)

@@ -19,7 +19,6 @@ use Rattle.settings.proofs.word.read_word.Reads as read-word-reads
 use Rattle.settings.proofs.word.prepare_alike.Reads as prepare-alike-reads
 use Rattle.settings.proofs.longhand.read_longhand.Reads as read-longhand-reads
 use Rattle.settings.proofs.longhand.write_longhand.Reads as write-longhand-reads
-use Rattle.settings.proofs.super_opts.levels_of.Reads as levels-of-reads
 use Rattle.settings.proofs.super_opts.reduce_dim.Reads as reduce-dim-reads
 use Rattle.settings.proofs.Outcome.{OneOutcome, settled, itself}
 use Rattle.settings.proofs.Known.{read-known, told-known, tested-known, checked-known, packed-known, sized-known}
@@ -71,9 +70,6 @@ prepare-alike-unique κs x r s e f p q = settled itself p q
 
 pub reduce-dim-unique : (κs : Lfts 0) → OneOutcome (reduce-dim-reads.Post κs) (λ r e. r)
 reduce-dim-unique κs x r s e f p q = settled itself p q
-
-pub levels-of-unique : (κs : Lfts 0) → OneOutcome (levels-of-reads.Post κs) (λ r e. r)
-levels-of-unique κs x r s e f p q = settled itself p q
 
 pub read-longhand-unique : (κs : Lfts 1) → OneOutcome (read-longhand-reads.Post κs) (λ r e. r)
 read-longhand-unique κs x r s e f p q = settled read-known p q
