@@ -29,7 +29,7 @@ int main(void) {
     done("sill_pack_data", sill_pack_data(record, SILL_COUNT_RECORD, &word, SILL_COUNT_WORD));
     printf("word %016" PRIx64 "\n", word);
 
-    /* Beside the word, the settings spelled out: they can always be read back, which a word's can't. */
+    /* Beside the word, the settings spelled out: they can always be read back; those of a word can't always. */
     uint8_t longhand[SILL_COUNT_LONGHAND];
     done("sill_longhand_write", sill_longhand_write(record, SILL_COUNT_RECORD, longhand, SILL_COUNT_LONGHAND));
     printf("longhand ");

@@ -5,8 +5,8 @@
    sizes and layouts, frames.
 
    Numbers. Each call but sill_prepare_alike returns 0 where it is done, else the number that says why not: those of document 01's
-   table, and document 02's 15 to 18, which the table leaves free. Where more than one applies the lowest is given, and none other;
-   sill_longhand_read says in which order it looks.
+   table, and document 02's 15 to 18, which the table leaves free. Where more than one applies the lowest is given, and none other; only
+   sill_longhand_read has an order of its own, told there.
 
    Slices. A slice is a pointer and then a count of elements, and the pointer is aligned for its type, as C's own arrays are.
    Where the count is 0 the pointer isn't looked at and may be NULL: a slice that is missing is a slice of length 0, and gets the
@@ -72,7 +72,7 @@ enum {
     SILL_BAD_SPILL = 12,       /* spill shorter than its need */
     SILL_BAD_SCRATCH = 13,     /* scratch shorter than 16 * (pitch + 16) */
     SILL_BAD_LEVELS = 14,      /* packing: more than 63 levels */
-    SILL_NO_ROOM = 15,         /* a slice lent for the answer is shorter than the answer; longhand: bytes run short of length or record */
+    SILL_NO_ROOM = 15,         /* a slice lent for the answer is shorter than the answer; longhand: the bytes end before the length field or the record does */
     SILL_NO_KIND = 16,         /* longhand: the kind isn't known */
     SILL_BAD_LENGTH = 17,      /* longhand: length isn't the kind's, or is below 2 */
     SILL_BAD_CONTENTS = 18,    /* longhand: contents aren't an accepted record, or a spare flag is set */

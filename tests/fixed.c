@@ -244,7 +244,7 @@ static void vast_answers(const layout *l, uint8_t *to, size_t count) {
     is(sill_pack_data(r, 10, (uint64_t *)to, count), 0), front_is(to, &word, sizeof word, "word");
     is(sill_read_word(word, numbers, count), 0), front_is(to, told, sizeof told, "description");
     is(sill_longhand_write(r, 10, to, count), 0), front_is(to, longhand, sizeof longhand, "longhand record");
-    is(sill_longhand_read(longhand, 21, numbers, count, &after, 1), 0), front_is(to, r, 10 * sizeof *r, "record");
+    is(sill_longhand_read(longhand, 21, numbers, count, &after, 1), 0), front_is(to, r, 10 * sizeof *r, "record"), is((uint32_t)after, 21);
     is(sill_longhand_read(longhand, 21, told, 10, places, count), 0), front_is(to, &after, sizeof after, "place");
     is(sill_super_sizes(r, 10, numbers, count), 0), front_is(to, sizes, sizeof sizes, "super size");
     is(sill_level_regions(r, 10, 0, 0, p, places, count), 0), front_is(to, regions, sizeof regions, "layout");
@@ -289,6 +289,7 @@ static void vast(void) {
     is(sill_build_plane(frame, 14975, (uint8_t *)held, over, (uint8_t *)held + over, over, l.record, 10, 0, 0, 64, src, 3072, 64), 11);
     is(sill_build_plane((uint8_t *)held, over, spill, 15, scratch, 1280, l.record, 10, 0, 0, 64, src, 3072, 64), 12);
     for (int k = 0; k < 3072; k++) src[k] = (uint8_t)next();
+    memset(to, 0, 4096);
     vast_answers(&l, to, over);
     memset(to, 0, 4096);
     vast_longhand(to, held, over);

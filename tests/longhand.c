@@ -1,7 +1,7 @@
 /* Longhand records: document 02's order 1. Every call is held to rules.c, and the numbers that can be told by hand are told here; the Rust has
    no such record.
-   In order: the sample of records; bytes by hand; writing; reading back, cut short and with more behind; each byte damaged; every kind with
-   every length; short slices; one record after another; all of them. */
+   In order: the sample of records; bytes by hand; writing; reading back, cut short and with more behind; each byte damaged; other kinds and
+   lengths; short slices; one record after another; all of them. */
 #include <stdio.h>
 #include <string.h>
 
@@ -98,7 +98,7 @@ static void frames(void) {
             is(try_longhand_read(bytes, count, 10, 1), no);
         }
     }
-    /* Lengths near 2^31 and 2^32: with 4 more they would fit again, cut to 32 bits. */
+    /* Lengths near 2^31 and 2^32: taken as signed, or with 4 added in 32 bits, they would seem to fit. */
     static const uint32_t vast[] = {0x7fffffff, 0x80000000, 0xfffffffb, 0xfffffffc, 0xfffffffd, 0xfffffffe, 0xffffffff};
     for (size_t k = 0; k < sizeof vast / sizeof *vast; k++) for (uint32_t kind = 0; kind < 3; kind++) {
         framed(bytes, vast[k], kind);
@@ -141,7 +141,8 @@ static void in_a_row(void) {
 
 void longhand_cases(void) {
     samples();
-    for (where = AT_START; where < SPOTS; where++) by_hand(), written(), read_back(), frames(), short_slices(), in_a_row();
+    by_hand();
+    for (where = AT_START; where < SPOTS; where++) written(), read_back(), frames(), short_slices(), in_a_row();
     damaged();
     printf("door: %d longhand records, each cut to every length and with every byte changed to every other: as told\n", SAMPLES);
 }

@@ -235,7 +235,7 @@ static const uint32_t can[CALLS] = {
 enum { ENOUGH = 100000 };
 
 void random_calls(uint64_t count) {
-    /* A quarter of the calls are builds. */
+    /* Five of eighteen calls are builds. */
     for (uint64_t k = 0; k < count; k++) one(k % 18 < CALLS ? (int)(k % 18) : BUILD);
     tell("numbers met");
     for (int call = 0; call < CALLS; call++) {

@@ -1,5 +1,5 @@
-/* Documents 01 and 02 in plain C, written from the documents alone and not from either code: settings, words and document 02's longhand
-   record; sizes and the table of numbers, in document 01's order. What bytes a build writes isn't here: that is the Rust's to say. */
+/* Documents 01 and 02 in plain C, written from the documents alone and not from either code. In order: settings, words, document 02's
+   longhand record, sizes, the table of numbers. What bytes a build writes isn't here: that is the Rust's to say. */
 #include <string.h>
 
 #include "door.h"
@@ -124,7 +124,7 @@ static uint32_t rule_contents(const uint8_t bytes[21], int32_t record[10]) {
 }
 
 /* "15 bytes run short of the length field or of the length, 16 unknown kind, 17 length isn't the kind's or is below 2, 18 ..; in that
-   order, but a length below 2 is 17 before any kind is read." The place is told with 0 and 16. */
+   order, but a length below 2 is 17 before any kind is read." `*after` counts only with 0 and 16. */
 uint32_t rule_longhand_read(const uint8_t *bytes, size_t count, int32_t record[10], size_t *after) {
     if (count < 4 || spells(bytes, OF_LENGTH) > count - 4) return 15;
     uint32_t length = spells(bytes, OF_LENGTH);

@@ -12,8 +12,8 @@ use Rattle.settings.specs.declared.refusal.Refusal.{Refusal}
 use Rattle.settings.specs.declared.longhand.Longhand.{Longhand}
 use Rattle.settings.specs.Numbers.{refuse, _then_}
 use Rattle.settings.specs.Answers.{Answer, answer, number, written}
-use Rattle.settings.specs.Longhand.{lengthOf, kindOf, placeAfter, bodyOf, kindLength, isBody, frameNo, longhandNo, noLonghand, longhandBy, longhandAnswer}
-use Rattle.settings.proofs.Known.{number-some, number-known, number-of}
+use Rattle.settings.specs.Longhand.{lengthOf, kindOf, placeAfter, bodyOf, kindLength, isBody, frameNo, longhandNo, noLonghand, longhandAnswer}
+use Rattle.settings.proofs.Known.{number-some, number-not-16, number-of}
 use Rattle.settings.proofs.Tests.{or-false-left, or-false-right}
 use Rattle.exports.specs.Numbers.{numbersOf}
 use Rattle.exports.specs.Answers.{lowest, tells, longhandReadNo, fieldsTells, placeTells}
@@ -73,7 +73,7 @@ module _ (l : List ℕ) (F : List ℤ) (A : List ℕ) where
 
     pub left-record : {r k : ℕ} {f : List ℤ} {a : List ℕ} (h : Longhand) → answer 0 h ≡ longhandAnswer l → answer k f ≡ tells 0 (numbersOf (h .opts)) F → answer r a ≡ tells 0 (h .after ∷ []) A → Left r f a
     left-record {r} {k} {f} {a} h e p q =
-        let is : h ≡ longhandBy 0 l = value-of e ∙ ap (λ (n : ℕ). longhandBy n l) (sym (number-of e)) in
+        let is : h ≡ longhandAnswer l .value = value-of e in
         let p2 = put-done (numbersOf (h .opts)) F long-f p in
         let q2 = put-done (h .after ∷ []) A long-a q in
         left
@@ -83,7 +83,7 @@ module _ (l : List ℕ) (F : List ℤ) (A : List ℕ) where
 
     pub left-unknown : {k : ℕ} {a : List ℕ} (place : ℕ) → answer 16 (noLonghand place) ≡ longhandAnswer l → answer k a ≡ tells 0 (place ∷ []) A → Left 16 F a
     left-unknown {k} {a} place e q =
-        let is : place ≡ placeAfter l = ap (λ (x : Longhand). x .after) (value-of e ∙ ap (λ (n : ℕ). longhandBy n l) (sym (number-of e))) in
+        let is : place ≡ longhandAnswer l .value .after = ap (λ (x : Longhand). x .after) (value-of e) in
         left
         (by-reading ∙ sym (number-of e))
         refl
@@ -94,4 +94,4 @@ module _ (l : List ℕ) (F : List ℤ) (A : List ℕ) where
         left
         (by-reading ∙ sym (number-of e))
         (rw (is, number-some f))
-        (rw (is, number-some f, number-known f))
+        (rw (is, number-some f, number-not-16 f))

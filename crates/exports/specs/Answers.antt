@@ -1,4 +1,4 @@
--- The number of each call, and what it leaves in the slices that are lent for its answer. "The lowest number that applies is given, and none other"; "no refusal changes a lent byte".
+-- The number of each call, and what it leaves in the slices that are lent for its answer. "The lowest number that applies is given, and none other"; "no refusal changes a lent byte", but for the place that reading a longhand record tells with 16.
 use mathlib.Core.Bool.{Bool, cond, _&&_, _||_}
 use mathlib.Core.List.{List, [], _∷_}
 use Prim.Native.Nat.{ℕ}
@@ -11,8 +11,7 @@ use Rattle.settings.specs.Check.{settled, settingsNo, recordNo, superHeight, su
 use Rattle.settings.specs.Word.{packNo, wordOf}
 use Rattle.settings.specs.Reading.{candidate, readNo, describe}
 use Rattle.settings.specs.Answers.{Answer, answer, complete, written}
-use Rattle.settings.specs.Kind1.{kind1Record}
-use Rattle.settings.specs.Longhand.{bodyOf, placeAfter, longhandNo}
+use Rattle.settings.specs.Longhand.{longhandNo, longhandAnswer}
 use Rattle.builder.specs.declared.layout.Layout.{Layout}
 use Rattle.builder.specs.Layout.{levelsOf, regionOr, writtenEnd}
 use Rattle.builder.specs.Numbers.{layoutNo, rowNo}
@@ -59,8 +58,8 @@ longhandReadNo l fields after = lowest (longhandNo l) (ltb (length fields) 10 ||
 
 -- what a call of number n leaves of the first: the record's numbers
 abbrev pub fieldsTells : ℕ → List ℕ → List ℤ → Answer (List ℤ)
-fieldsTells n l fields = complete n (written (numbersOf (kind1Record (bodyOf l))) fields) fields
+fieldsTells n l fields = complete n (written (numbersOf (longhandAnswer l .value .opts)) fields) fields
 
 -- and of the second: "A refused read gives zeros and, but for 16, place 0"; here nothing where there is no place
 abbrev pub placeTells : ℕ → List ℕ → List ℕ → Answer (List ℕ)
-placeTells n l after = answer n (cond (eqb n 0 || eqb n 16) (written (placeAfter l ∷ []) after) after)
+placeTells n l after = answer n (cond (eqb n 0 || eqb n 16) (written (longhandAnswer l .value .after ∷ []) after) after)

@@ -8,8 +8,8 @@ use Rattle.settings.specs.declared.super_opts.SuperOpts.{SuperOpts}
 use Rattle.settings.specs.declared.longhand.Longhand.{Longhand}
 use Rattle.settings.specs.declared.longhand.Read.the-variants.{Record, Unknown, Refused}
 use Rattle.settings.specs.Answers.{answer, number, noRecord}
-use Rattle.settings.specs.Longhand.{readAs, writeAnswer}
-use Rattle.settings.proofs.Known.{number-some, number-known}
+use Rattle.settings.specs.Longhand.{readAs, kind1Bytes, writeAnswer}
+use Rattle.settings.proofs.Known.{number-some, number-not-16}
 use Rattle.lines.specs.Text.{decimal, spaced, hexText}
 use Rattle.lines.specs.Longhand.{optsText, wordText, readText, writtenText, checkedText}
 
@@ -24,7 +24,7 @@ read-unknown place = sym (append-nil (decimal 16 ++ spaced (decimal place)))
 
 pub read-refused : (f : Refusal) → decimal (number f) ≡ readText (readAs (Refused f))
 unfolding readText
-read-refused f = rw (number-some f, number-known f) (sym (append-nil (decimal (number f) ++ []) ∙ append-nil (decimal (number f))))
+read-refused f = rw (number-some f, number-not-16 f) (sym (append-nil (decimal (number f) ++ []) ∙ append-nil (decimal (number f))))
 
 -- ---- writing
 pub written-fine : (out : List ℕ) → decimal 0 ++ spaced (hexText out) ≡ writtenText (answer 0 out)
@@ -35,7 +35,7 @@ pub written-refused : (f : Refusal) (out : List ℕ) → decimal (number f) ≡ 
 unfolding writtenText
 written-refused f out = rw (number-some f) (sym (append-nil (decimal (number f))))
 
-pub checked-accepted : (r : SuperOpts) → writtenText (writeAnswer r (replicate 21 0)) ≡ checkedText (answer 0 r)
+pub checked-accepted : (r : SuperOpts) → writtenText (writeAnswer r (replicate kind1Bytes 0)) ≡ checkedText (answer 0 r)
 unfolding checkedText
 checked-accepted r = refl
 

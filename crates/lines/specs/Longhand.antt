@@ -10,7 +10,7 @@ use Rattle.settings.specs.declared.super_opts.SuperOpts.{SuperOpts}
 use Rattle.settings.specs.Check.{intOr}
 use Rattle.settings.specs.declared.longhand.Longhand.{Longhand}
 use Rattle.settings.specs.Answers.{Answer, checkAnswer, packAnswer}
-use Rattle.settings.specs.Longhand.{longhandAnswer, writeAnswer}
+use Rattle.settings.specs.Longhand.{kind1Bytes, longhandAnswer, writeAnswer}
 use Rattle.lines.specs.Limits.{mostInput}
 use Rattle.lines.specs.Text.{hexOf, allDigits, decimal, signed, spaced, flagsText, hexDigits, hexText}
 use Rattle.lines.specs.Parting.{times, fieldAt}
@@ -81,9 +81,9 @@ readText a =
 unfoldable pub writtenText : Answer (List ℕ) → List ℕ
 writtenText a = decimal (a .no) ++ cond (eqb (a .no) 0) (spaced (hexText (a .value))) []
 
--- into 21 bytes, as many as a record takes
+-- into as many bytes as a record takes
 unfoldable pub checkedText : Answer SuperOpts → List ℕ
-checkedText a = cond (eqb (a .no) 0) (writtenText (writeAnswer (a .value) (replicate 21 0))) (decimal (a .no))
+checkedText a = cond (eqb (a .no) 0) (writtenText (writeAnswer (a .value) (replicate kind1Bytes 0))) (decimal (a .no))
 
 abbrev pub askedAnswer : List ℕ → Answer SuperOpts
 askedAnswer l = checkAnswer (askedSettings l) (askedSide l 0) (askedSide l 1)

@@ -1,4 +1,4 @@
--- Document 01, "Words read and compared": the line that the program prints for a line.
+-- Text in and out: digits, numbers, and a line that is being made; between them document 01, "Words read and compared": the line that the program `words` prints for a line.
 use Prim.Native.Nat.{ℕ, zero, suc, _+_, _*_, _-_, _/_, _%_, _≤_}
 use mathlib.Core.Path.{_≡_}
 use mathlib.Core.Bool.{Bool, true, cond, _&&_, _||_}

@@ -10,7 +10,7 @@ ghost use Rattle.lines.specs.Parting.{fieldAt};
 ghost use Rattle.lines.specs.Fields.{intOf, flagOf};
 ghost use Rattle.lines.specs.Longhand.{isRecord, bytesOf, areSizes, areNumbers, areFlags, isAsked, askedSide, askedSettings, optsText, packedWord, wordText, readText, writtenText, checkedText, askedAnswer, answerText, longhandLine};
 ghost use Rattle.settings.specs.Answers.{number, checked};
-ghost use Rattle.settings.specs.Longhand.{readAs, longhandAnswer, writeAnswer};
+ghost use Rattle.settings.specs.Longhand.{kind1Bytes, readAs, longhandAnswer, writeAnswer};
 use crate::fields::flag_of;
 use crate::fields::int_of;
 use crate::fields::is_flag;
@@ -23,6 +23,7 @@ use crate::parting::times;
 use crate::text::Line;
 use crate::text::all_digits;
 use crate::text::hex_of;
+use settings::longhand::RECORD;
 use settings::longhand::Read;
 use settings::longhand::UNKNOWN_KIND;
 use settings::longhand::read_longhand;
@@ -35,9 +36,6 @@ use settings::super_opts::OptInt;
 use settings::super_opts::Packed;
 use settings::super_opts::Settings;
 use settings::super_opts::SuperOpts;
-
-// The bytes of a record.
-const RECORD: usize = 21;
 
 fn is_record(line: &[u8]) -> bool
     ensures { λ r. ⌜ r ≡ isRecord (now (line .entry)) ⌝ }
@@ -199,7 +197,7 @@ impl Line {
     }
 
     fn with_written_bytes(self, bytes: &[u8]) -> Line
-        requires { ⌜ (self .len + 63 ≤ room) × (length (now bytes) ≤ 21) ⌝ }
+        requires { ⌜ (self .len + 63 ≤ room) × (length (now bytes) ≤ kind1Bytes) ⌝ }
         ensures { λ r. ⌜ Appended self r (decimal 0 ++ spaced (hexText (now (bytes .entry)))) 63 ⌝ }
     {
         self.with_decimal(0).with_byte(b' ').with_hex_bytes(bytes)
@@ -207,7 +205,7 @@ impl Line {
 
     fn with_written(self, opts: SuperOpts) -> Line
         requires { ⌜ self .len + 63 ≤ room ⌝ }
-        ensures { λ r. ⌜ Appended self r (writtenText (writeAnswer opts (replicate 21 0))) 63 ⌝ }
+        ensures { λ r. ⌜ Appended self r (writtenText (writeAnswer opts (replicate kind1Bytes 0))) 63 ⌝ }
     {
         let mut bytes = [0u8; RECORD];
         match write_longhand(opts, &mut bytes) {

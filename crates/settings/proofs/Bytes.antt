@@ -32,14 +32,14 @@ low b v h = omega arith
 high : (b v : ℕ) → b < 256 → (b + 256 * v) / 256 ≡ v
 high b v h = omega arith
 
-pub bytes-back : (l : List ℕ) → bytes l ≡ true → littleEndian (length l) (valueOf l) ≡ l
+bytes-back : (l : List ℕ) → bytes l ≡ true → littleEndian (length l) (valueOf l) ≡ l
 unfolding littleEndian valueOf
 bytes-back [] e = refl
 bytes-back (b ∷ l) e =
     let h = ltb-true b 256 (and-left (ltb b 256) (bytes l) e) in
     rw (low b (valueOf l) h, high b (valueOf l) h, bytes-back l (and-right (ltb b 256) (bytes l) e))
 
-pub value-small : (l : List ℕ) → bytes l ≡ true → valueOf l < range (length l)
+value-small : (l : List ℕ) → bytes l ≡ true → valueOf l < range (length l)
 unfolding valueOf
 value-small [] e = omega arith
 value-small (b ∷ l) e = omega (arith, ltb-true b 256 (and-left (ltb b 256) (bytes l) e), value-small l (and-right (ltb b 256) (bytes l) e))

@@ -1,4 +1,4 @@
--- What document 02 asks of longhand records: every accepted record survives writing and reading (`survives`), one record has one encoding (`read-exactly`), and nothing past a record's own bytes counts (`own-bytes`). Assumes nothing.
+-- What document 02 asks of longhand records: every accepted record survives writing and reading (`survives`), one record has one encoding (`read-exactly`, `one-encoding`), and nothing past a record's own bytes counts (`own-bytes`). Assumes nothing.
 use mathlib.Core.Path.{_≡_, refl, sym, ap, _∙_, subst}
 use mathlib.Core.Bool.{Bool, true, false, cond, not, _||_}
 use mathlib.Core.List.{List, _++_}
@@ -17,7 +17,7 @@ use Rattle.settings.specs.Check.{accepted}
 use Rattle.settings.specs.Answers.{Answer, answer}
 use Rattle.settings.specs.LittleEndian.{bytes, littleEndian, valueOf}
 use Rattle.settings.specs.Kind1.{kind1Body, flagsAt, kind1Record, kind1Good}
-use Rattle.settings.specs.Longhand.{framed, lengthOf, kindOf, placeAfter, bodyOf, kindLength, isBody, frameNo, longhandNo, noLonghand, longhandBy, longhandAnswer, longhandOf, Begins}
+use Rattle.settings.specs.Longhand.{framed, lengthOf, kindOf, placeAfter, bodyOf, kindLength, isBody, recordIn, frameNo, longhandNo, noLonghand, longhandBy, longhandAnswer, longhandOf, kind1Bytes, Begins}
 use Rattle.settings.proofs.Tests.{and-left, and-right, or-false-left, or-false-right}
 use Rattle.settings.proofs.Integers.{yes-no}
 use Rattle.settings.proofs.Refusals.{then-first, then-rest, refuse-not}
@@ -57,7 +57,7 @@ module _ (kind : ℕ) (body rest : List ℕ) (known : kind < 65536) (fits : leng
       })
 
 -- ---- "Every accepted record survives writing and reading"
-pub survives : (r : SuperOpts) (rest : List ℕ) → accepted r ≡ true → isI32 (r .«scale_down») ≡ true → isI32 (r .«scale_up») ≡ true → longhandAnswer (longhandOf r ++ rest) ≡ answer 0 (record { opts = r; after = 21 })
+pub survives : (r : SuperOpts) (rest : List ℕ) → accepted r ≡ true → isI32 (r .«scale_down») ≡ true → isI32 (r .«scale_up») ≡ true → longhandAnswer (longhandOf r ++ rest) ≡ answer 0 (record { opts = r; after = kind1Bytes })
 survives r rest good down up =
     let b = kind1Body r in
     let l = longhandOf r ++ rest in
@@ -66,7 +66,7 @@ survives r rest good down up =
     let is-body = body-at 1 b rest known fits in
     let long : lengthOf l ≡ 17 = length-at 1 b rest known fits ∙ ap (λ (n : ℕ). 2 + n) (body-long r) in
     let none : longhandNo l ≡ 0 = by-body l (frame-fine 1 b rest known fits) (kind-at 1 b rest known fits) long ∙ ap (λ (x : List ℕ). refuse (not (kind1Good x)) 18) is-body ∙ ap (λ (t : Bool). refuse (not t) 18) (body-good r good down up) in
-    rw (none, is-body, long, record-back r good down up)
+    rw (none, kind-at 1 b rest known fits, is-body, long, record-back r good down up)
 
 -- ---- "one record has one encoding"
 body-count : (l : List ℕ) → Whole l → length (bodyOf l) ≡ lengthOf l - 2
@@ -128,18 +128,26 @@ read-begins l are e =
           ∙ ap (framed 1) (sym (body-back b are-b long (and-right accept spare (s .good))));
     }
 
--- reading gives exactly the records whose longhand the bytes begin with
-pub read-exactly : (l : List ℕ) (r : SuperOpts) → bytes l ≡ true → (longhandAnswer l ≡ answer 0 (record { opts = r; after = 21 })) ↔ Begins l r
-read-exactly l r are = (there, back)
+-- reading gives exactly the records whose longhand the bytes begin with, and the place after that
+pub read-exactly : (l : List ℕ) (r : SuperOpts) (place : ℕ) → bytes l ≡ true → (longhandAnswer l ≡ answer 0 (record { opts = r; after = place })) ↔ ((place ≡ kind1Bytes) × Begins l r)
+read-exactly l r place are = (there, back)
   where
-    there : longhandAnswer l ≡ answer 0 (record { opts = r; after = 21 }) → Begins l r
+    there : longhandAnswer l ≡ answer 0 (record { opts = r; after = place }) → (place ≡ kind1Bytes) × Begins l r
     there e =
         let none = number-of e in
-        let same : kind1Record (bodyOf l) ≡ r = ap (λ (n : ℕ). longhandBy n l .opts) (sym none) ∙ ap (λ (a : Answer Longhand). a .value .opts) e in
-        subst (Begins l) same (read-begins l are none)
+        let s = spelled l none in
+        let value : longhandBy 0 l ≡ record { opts = r; after = place } = ap (λ (n : ℕ). longhandBy n l) (sym none) ∙ ap (λ (a : Answer Longhand). a .value) e in
+        let same : kind1Record (bodyOf l) ≡ r = ap (λ (k : ℕ). recordIn k (bodyOf l)) (sym (s .kind)) ∙ ap (λ (h : Longhand). h .opts) value in
+        (sym (ap (λ (h : Longhand). h .after) value) ∙ ap (λ (n : ℕ). 4 + n) (s .long), subst (Begins l) same (read-begins l are none))
 
-    back : Begins l r → longhandAnswer l ≡ answer 0 (record { opts = r; after = 21 })
-    back h = ap longhandAnswer (sym (take-append-drop 21 l) ∙ ap (λ (x : List ℕ). x ++ drop 21 l) (h .front)) ∙ survives r (drop 21 l) (h .good) (h .down-fits) (h .up-fits)
+    back : (place ≡ kind1Bytes) × Begins l r → longhandAnswer l ≡ answer 0 (record { opts = r; after = place })
+    back h =
+        ap longhandAnswer (sym (take-append-drop kind1Bytes l) ∙ ap (λ (x : List ℕ). x ++ drop kind1Bytes l) (h .1 .front))
+        ∙ survives r (drop kind1Bytes l) (h .1 .good) (h .1 .down-fits) (h .1 .up-fits)
+        ∙ ap (λ (p : ℕ). answer 0 (record { opts = r; after = p })) (sym (h .0))
+
+pub one-encoding : (l m : List ℕ) (r : SuperOpts) → Begins l r → Begins m r → take kind1Bytes l ≡ take kind1Bytes m
+one-encoding l m r p q = p .front ∙ sym (q .front)
 
 -- ---- "gives the place after it by the length": of a record whose bytes are all there, whatever stands after them
 same-answer : (m l : List ℕ) → frameNo m ≡ frameNo l → lengthOf m ≡ lengthOf l → kindOf m ≡ kindOf l → bodyOf m ≡ bodyOf l → longhandAnswer m ≡ longhandAnswer l

@@ -61,8 +61,8 @@ number-not-0 : (f : Refusal) → number f ≡ 0 → ⊥
 number-not-0 f = none-of f 0 refl (λ e. omega arith)
 
 -- an unknown kind's number is no refusal's
-pub number-known : (f : Refusal) → eqb (number f) 16 ≡ false
-number-known f = ne-eqb (number f) 16 (none-of f 16 refl (λ e. omega arith))
+pub number-not-16 : (f : Refusal) → eqb (number f) 16 ≡ false
+number-not-16 f = ne-eqb (number f) 16 (none-of f 16 refl (λ e. omega arith))
 
 pub number-some : (f : Refusal) → eqb (number f) 0 ≡ false
 number-some f = ne-eqb (number f) 0 (number-not-0 f)
@@ -149,7 +149,7 @@ read-from a = cond (eqb (a .no) 0) (Record (a .value)) (cond (eqb (a .no) 16) (U
 read-back : (a : Read) → read-from (readAs a) ≡ a
 read-back (Record h) = refl
 read-back (Unknown place) = refl
-read-back (LonghandRefused f) = rw (number-some f, number-known f, number-back f)
+read-back (LonghandRefused f) = rw (number-some f, number-not-16 f, number-back f)
 
 pub read-known : (a b : Read) → readAs a ≡ readAs b → a ≡ b
 read-known = known-by readAs read-from read-back

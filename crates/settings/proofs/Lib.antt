@@ -14,9 +14,9 @@
 --     Bodies     the body of kind 1 and its record, both ways
 --     Longhands  longhand records: what reading comes to, and what writing leaves
 --     Encodings  a record survives, has one encoding, and ends where its length says
---     ByHand     document 01's table, computed
+--     ByHand     document 01's table and a longhand record, computed
 --     Outcome    what a call promises, one outcome, and the law behind it
---     Roundtrip  what is written is read, about the calls
+--     Roundtrip  document 02 about the calls: what is written is read, and one record has one encoding
 --     Unique     one outcome for each public call
 pub mod Tests
 pub mod Integers

@@ -18,7 +18,7 @@ use Rattle.settings.specs.Kind1.{kind1Body, kind1Record, kind1Good}
 use Rattle.settings.specs.Longhand.{framed, lengthOf, kindOf, placeAfter, bodyOf, kindLength, isBody, frameNo, longhandNo, noLonghand, longhandAnswer, longhandOf, writeNo, writeAnswer}
 use Rattle.settings.proofs.Tests.{or-false-left, or-false-right}
 use Rattle.settings.proofs.Refusals.{then-first, then-rest, refuse-not}
-use Rattle.settings.proofs.Known.{given, number-then, number-some, number-known, number-of, value-given}
+use Rattle.settings.proofs.Known.{given, number-then, number-some, number-not-16, number-of, value-given}
 use Rattle.settings.proofs.Accepted.{record-none}
 use Rattle.settings.proofs.Pasting.{from-start, put-next}
 use Rattle.settings.proofs.Bytes.{bytes-long}
@@ -55,7 +55,7 @@ frame-refused l f e =
     let a = refuse (eqb (kindLength (kindOf l)) 0) 16 in
     let b = refuse (not (eqb (lengthOf l) (kindLength (kindOf l)))) 17 in
     let c = refuse (not (isBody (kindOf l) (bodyOf l))) 18 in
-    rw (← e, ← number-then f a, ← number-then f b, ← number-then f c, number-some f, number-known f)
+    rw (← e, ← number-then f a, ← number-then f b, ← number-then f c, number-some f, number-not-16 f)
 
 pub kind-unknown : (l : List ℕ) → frameNo l ≡ 0 → (kindOf l ≡ 1 → ⊥) → answer 16 (noLonghand (placeAfter l)) ≡ longhandAnswer l
 unfolding longhandNo
@@ -73,10 +73,10 @@ by-body l e k n = rw (e, k, n)
 pub body-read : {r : SuperOpts} {b : List ℕ} (l : List ℕ) → frameNo l ≡ 0 → kindOf l ≡ 1 → lengthOf l ≡ 17 → b ≡ bodyOf l → answer 0 r ≡ complete (refuse (not (kind1Good b)) 18) (kind1Record b) noRecord → answer 0 (record { opts = r; after = placeAfter l }) ≡ longhandAnswer l
 body-read {r} {b} l e k n same given =
     let none = by-body l e k n ∙ ap (λ (x : List ℕ). refuse (not (kind1Good x)) 18) (sym same) ∙ sym (number-of given) in
-    rw (none, ← same, value-given (kind1Record b) noRecord given)
+    rw (none, k, ← same, value-given (kind1Record b) noRecord given)
 
 pub body-refused : {b : List ℕ} (l : List ℕ) (f : Refusal) → frameNo l ≡ 0 → kindOf l ≡ 1 → lengthOf l ≡ 17 → b ≡ bodyOf l → answer (number f) noRecord ≡ complete (refuse (not (kind1Good b)) 18) (kind1Record b) noRecord → answer (number f) (noLonghand 0) ≡ longhandAnswer l
-body-refused l f e k n same given = rw (by-body l e k n ∙ ap (λ (x : List ℕ). refuse (not (kind1Good x)) 18) (sym same) ∙ sym (number-of given), number-some f, number-known f)
+body-refused l f e k n same given = rw (by-body l e k n ∙ ap (λ (x : List ℕ). refuse (not (kind1Good x)) 18) (sym same) ∙ sym (number-of given), number-some f, number-not-16 f)
 
 -- ---- what writing leaves
 -- length, kind and body, put one after the other
@@ -89,7 +89,7 @@ frame-put {x} {y} {a} {b} {c} kind body out is-x is-y p q r =
     let q2 : b ≡ (x ++ y) ++ drop 6 out = put-next x y out four p2 q ∙ ap (λ (n : ℕ). (x ++ y) ++ drop (4 + n) out) two in
     put-next (x ++ y) body out six q2 r ∙ ap (λ (z : List ℕ). z ++ y ++ body ++ drop (6 + length body) out) is-x ∙ ap (λ (z : List ℕ). littleEndian 4 (2 + length body) ++ z ++ body ++ drop (6 + length body) out) is-y
 
-pub longhand-long : (r : SuperOpts) → length (longhandOf r) ≡ 21
+longhand-long : (r : SuperOpts) → length (longhandOf r) ≡ 21
 unfolding littleEndian kind1Body
 longhand-long r = refl
 

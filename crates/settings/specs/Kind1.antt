@@ -48,6 +48,6 @@ kind1Record b =
       height = pos (numberAt b 2 2);
     }
 
--- not "contents aren't an accepted record or a spare flag is set": three of the eight flags are used
+-- what 18 denies: an accepted record, and no flag but the three that are used
 abbrev pub kind1Good : List ℕ → Bool
 kind1Good b = accepted (kind1Record b) && ltb (flagsAt b) 8

@@ -1,4 +1,4 @@
--- Document 01, "Settings and sizes", "Numbers a call can give" and "Words read and compared", as definitions. In the order to read them:
+-- Document 01, "Settings and sizes", "Numbers a call can give" and "Words read and compared", and document 02's longhand record, as definitions. In the order to read them:
 --     Limits     its limits, each named once
 --     Numbers    integers, bits and rows of refusals
 --     Sizes      reducing and levels

@@ -1,5 +1,5 @@
 -- Document 02, order 1: the longhand record. First its frame: "length (4 bytes, counting what follows), kind (2 bytes, ..)", then a body; then the kinds that are known; last the number and value of reading and of writing.
--- A further kind adds a case to `kindLength` and `isBody` and a body of its own beside Kind1.
+-- A further kind adds a case to `kindLength`, `isBody` and `recordIn`, and a body of its own beside Kind1.
 use Prim.Native.Nat.{ℕ, _+_, _-_}
 use mathlib.Core.Path.{_≡_}
 use mathlib.Core.Bool.{Bool, true, false, cond, not, _||_}
@@ -42,6 +42,10 @@ kindLength kind = cond (eqb kind 1) kind1Length 0
 abbrev pub isBody : ℕ → List ℕ → Bool
 isBody kind body = cond (eqb kind 1) (kind1Good body) false
 
+-- the record that it spells
+abbrev pub recordIn : ℕ → List ℕ → SuperOpts
+recordIn kind body = cond (eqb kind 1) (kind1Record body) noRecord
+
 -- ---- reading
 -- "15 bytes run short of the length field or of the length"; "a length below 2 is 17 before any kind is read"
 unfoldable pub frameNo : List ℕ → ℕ
@@ -63,7 +67,7 @@ noLonghand place = record { opts = noRecord; after = place }
 -- "A refused read gives zeros and, but for 16, place 0"
 abbrev pub longhandBy : ℕ → List ℕ → Longhand
 longhandBy n l =
-    cond (eqb n 0) (record { opts = kind1Record (bodyOf l); after = placeAfter l })
+    cond (eqb n 0) (record { opts = recordIn (kindOf l) (bodyOf l); after = placeAfter l })
     (noLonghand (cond (eqb n 16) (placeAfter l) 0))
 
 abbrev pub longhandAnswer : List ℕ → Answer Longhand
@@ -78,9 +82,13 @@ readAs (Refused f) = answer (number f) (noLonghand 0)
 abbrev pub longhandOf : SuperOpts → List ℕ
 longhandOf r = framed 1 (kind1Body r)
 
+-- the bytes of a record of kind 1, its length's four among them
+abbrev pub kind1Bytes : ℕ
+kind1Bytes = 4 + kind1Length
+
 -- "The writer gives 6, then 15"
 abbrev pub writeNo : SuperOpts → List ℕ → ℕ
-writeNo r lent = recordNo r then refuse (ltb (length lent) (4 + kind1Length)) 15
+writeNo r lent = recordNo r then refuse (ltb (length lent) kind1Bytes) 15
 
 -- "nothing is written on either"
 abbrev pub writeAnswer : SuperOpts → List ℕ → Answer (List ℕ)
@@ -92,4 +100,4 @@ pub record Begins (l : List ℕ) (r : SuperOpts) : Type 0 where
   pub good : accepted r ≡ true
   pub down-fits : isI32 (r .«scale_down») ≡ true
   pub up-fits : isI32 (r .«scale_up») ≡ true
-  pub front : take (4 + kind1Length) l ≡ longhandOf r
+  pub front : take kind1Bytes l ≡ longhandOf r

@@ -1,7 +1,6 @@
 // The body of a longhand record of kind 1: written, then read.
 ghost use mathlib.Core.Path.{_≡_};
 ghost use mathlib.Core.Bool.{not};
-ghost use lib.Dec.{eqb};
 ghost use lib.ListN.{length};
 ghost use Prim.Native.Nat.{_%_};
 ghost use Rattle.settings.specs.Numbers.{refuse};
@@ -20,6 +19,9 @@ use crate::super_opts::SuperOpts;
 use crate::super_opts::levels_of;
 
 pub const BODY: usize = 15;
+
+// What the length of a record counts: the two bytes of its kind, and the body.
+pub const LENGTH: usize = 2 + BODY;
 
 fn flags(opts: SuperOpts) -> u8
     ensures { λ r. ⌜ r ≡ flagsOf opts % 256 ⌝ }

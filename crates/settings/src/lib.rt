@@ -1,6 +1,6 @@
-// Settings, the records that they make, and the words that records pack to: open-svpflow's super_opts.rs.
+// Settings, the records that they make, and the words that records pack to: open-svpflow's super_opts.rs; and the longhand record, document 02's own.
 //     limits        the product's limits, each named once
-//     refusal       why a call is refused: document 01's numbers
+//     refusal       why a call is refused: the numbers of documents 01 and 02
 //     numbers       integers and bools read as numbers
 //     super_opts    settings, `SuperOpts` and its calls: check, accepted, word, super sizes
 //     word          a word read back, and two words compared

@@ -1,12 +1,13 @@
 // The longhand record: settings spelled out as bytes, beside a word. Document 02, order 1.
-// First what reading answers; then `read_longhand`, the frame and then its kind; last `write_longhand`.
+// First what reading answers; then `read_longhand`, the frame, its kind, and kind 1; last `write_longhand`.
 ghost use mathlib.Core.Path.{_≡_};
 ghost use mathlib.Core.List.{_++_};
 ghost use Prim.Native.Nat.{_+_, _≤_, _<_, _^_};
 ghost use lib.ListN.{length, drop};
 ghost use Rattle.settings.specs.Answers.{answer, tested};
-ghost use Rattle.settings.specs.Longhand.{framed, frameNo, readAs, longhandAnswer, writeAnswer};
+ghost use Rattle.settings.specs.Longhand.{framed, kindOf, frameNo, readAs, longhandAnswer, writeAnswer};
 use crate::kind1::BODY;
+use crate::kind1::LENGTH as KIND_1_LENGTH;
 use crate::kind1::body;
 use crate::kind1::read_body;
 use crate::little_endian::bytes_2;
@@ -26,7 +27,8 @@ const FRAME: usize = 6;
 
 const KIND_1: u32 = 1;
 
-const KIND_1_LENGTH: usize = 17;
+// The bytes of a record of kind 1.
+pub const RECORD: usize = FRAME + BODY;
 
 // The number of a kind that isn't known. It comes with a place, so it has a case of its own and is no `Refusal`.
 pub const UNKNOWN_KIND: u32 = 16;
@@ -71,14 +73,21 @@ fn read_kind(bytes: &[u8]) -> Read
     requires { ⌜ frameNo (now bytes) ≡ 0 ⌝ }
     ensures { λ r. ⌜ readAs r ≡ longhandAnswer (now (bytes .entry)) ⌝ }
 {
-    let length = number_4(bytes, 0) as usize;
-    let after = LENGTH + length;
-    if number_2(bytes, LENGTH) != KIND_1 {
-        return Read::Unknown(after);
+    if number_2(bytes, LENGTH) == KIND_1 {
+        return read_kind_1(bytes);
     }
+    Read::Unknown(LENGTH + number_4(bytes, 0) as usize)
+}
+
+fn read_kind_1(bytes: &[u8]) -> Read
+    requires { ⌜ (frameNo (now bytes) ≡ 0) × (kindOf (now bytes) ≡ 1) ⌝ }
+    ensures { λ r. ⌜ readAs r ≡ longhandAnswer (now (bytes .entry)) ⌝ }
+{
+    let length = number_4(bytes, 0) as usize;
     if length != KIND_1_LENGTH {
         return Read::Refused(Refusal::Length);
     }
+    let after = LENGTH + length;
     match read_body(&bytes[FRAME..after]) {
         Checked::Accepted(opts) => Read::Record(Longhand { opts, after }),
         Checked::Refused(f) => Read::Refused(f),
@@ -92,7 +101,7 @@ pub fn write_longhand(opts: SuperOpts, out: &mut [u8]) -> Tested
     if !opts.accepted() {
         return Tested::Refused(Refusal::NoRecord);
     }
-    if out.len() < FRAME + BODY {
+    if out.len() < RECORD {
         return Tested::Refused(Refusal::Short);
     }
     put_framed(out, KIND_1, &body(opts));

@@ -16,9 +16,6 @@ returns c =
     let a = c .before .before .before .args in
     rw (← no-record (a .opts) (c .before .accepted .result) (c .before .accepted .ensures) (c .if1 .taken))
 
-add-if2 : tie.Need-add-if2
-add-if2 c = search needs
-
 returns-2 : tie.Need-returns-2
 returns-2 c =
     let t = c .before .before in
@@ -52,7 +49,6 @@ write-longhand-spec =
     (tie.spec
     accepted-requires
     returns
-    add-if2
     returns-2
     body-requires
     slice-aggregate-put-framed
