@@ -1,4 +1,4 @@
-// Lines of text about words: a line in, the line that document 01 prints for it out.
+// Text in and out, for both programs; and the line of `words`: a line in, the line that document 01 prints for it out.
 // First digits in; then `Line`, text that is being made, with what is put after it; last `line_out`, a whole line.
 ghost use mathlib.Core.Path.{_≡_};
 ghost use mathlib.Core.Bool.{true};
