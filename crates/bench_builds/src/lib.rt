@@ -1,7 +1,7 @@
 // Whole builds for a program in C: what bench/run links and counts. Levels are halved by cubic; the source's rows and the frame's stand without gaps, and the frame ends where its last level does.
-use builder::build::build_plane;
-use builder::layout::Ended;
-use builder::layout::Layout;
+use layouts::layout::Ended;
+use layouts::layout::Layout;
+use planes::build::build_plane;
 use settings::numbers::natural;
 use settings::refusal::Tested;
 use settings::super_opts::Checked;

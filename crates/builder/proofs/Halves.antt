@@ -11,11 +11,13 @@ use Rattle.filters.specs.declared.halving.ReduceFilter.the-variants.{Cubic}
 use Rattle.filters.specs.Halve.{Apart, headed, reducedApart, horizontalRow}
 use Rattle.filters.proofs.Pairs.{reduced-apart}
 use Rattle.filters.proofs.Lengths.{horizontal-length}
-use Rattle.builder.specs.Canvas.{fetch, put}
-use Rattle.builder.specs.declared.layout.Region.{Region}
+use Rattle.layouts.specs.Storing.{put}
+use Rattle.layouts.specs.declared.layout.Region.{Region}
+use Rattle.layouts.proofs.Loops.{put-plain, put-lent, row-in}
+use Rattle.builder.specs.Canvas.{fetch}
 use Rattle.builder.specs.Room.{Source, Within}
 use Rattle.builder.specs.Halving.{halveRun, fusedLine}
-use Rattle.builder.proofs.Runs.{fetch-length, fetch-stored, put-plain, put-lent, put-right, row-in}
+use Rattle.builder.proofs.Runs.{fetch-length, fetch-stored, put-right}
 
 -- the part for the halved row was lent, and came back as l
 pub halve-lent : (f : ReduceFilter) (w at : ℕ) (c l split row : List ℕ) → 1 ≤ w → at + 2 * w ≤ length c → row ≡ fetch c at (2 * w) → Apart w w (headed row) split → l ≡ reducedApart f (length (take (at + w - at) (drop at c))) split → take at c ++ (l ++ drop (at + w - at) (drop at c)) ≡ halveRun f w at c

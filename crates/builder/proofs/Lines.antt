@@ -9,17 +9,19 @@ use lib.Dec.{leb, eqb}
 use borrow.Author.Tests.{leb-false}
 use lib.ListN.{length, take, drop, length-append, drop-of-length-le}
 use lib.Seq.{length-take-le}
+use mathlib.Core.Logic.{_⊎_, inl, inr}
 use Rattle.settings.proofs.Tests.{or-false-right}
 use Rattle.filters.specs.declared.halving.ReduceFilter.{ReduceFilter}
 use Rattle.filters.specs.declared.halving.ReduceFilter.the-variants.{Average, Bilinear, Quadratic, Cubic}
+use Rattle.filters.specs.Halve.{lastRow, firstRow, lastIsMean, isEdge, weigh, restOf}
 use Rattle.filters.specs.Row.{Six, tab, meansOf, sixes}
-use Rattle.filters.specs.Halve.{firstRow, lastRow, lastIsMean, isEdge, weigh, restOf}
 use Rattle.filters.proofs.Kernels.{rows-read}
 use Rattle.filters.proofs.Lengths.{means-length, sixes-length}
+use Rattle.layouts.proofs.Loops.{row-in}
+use Rattle.builder.specs.Halving.{wholeOf, wholeLine, restLine, innerLine, verticalLine}
 use Rattle.builder.specs.Canvas.{fetch}
 use Rattle.builder.specs.Room.{Source}
-use Rattle.builder.specs.Halving.{wholeOf, wholeLine, restLine, innerLine, verticalLine}
-use Rattle.builder.proofs.Runs.{two-parts, rest-length, row-in}
+use Rattle.builder.proofs.Runs.{two-parts, rest-length}
 
 -- ---- how far a filter reads
 first-near : (f : ReduceFilter) (sp : ℕ) → firstRow f * sp ≤ 2 * sp
@@ -166,3 +168,9 @@ before-last f y h e m = leb-false h (y + 1) (rw m at (or-false-right (eqb y 0) (
 -- another row as many as its filter
 pub inner-reach : (f : ReduceFilter) {len base sp n h y : ℕ} → Source len base sp n h → y < h → isEdge f y h ≡ false → (2 * sp ≤ base + y * (2 * sp)) × (base + y * (2 * sp) + lastRow f * sp + n ≤ len)
 inner-reach f {base = base} {sp = sp} {h = h} {y = y} s lt e = (omega (arith, row-in 0 y (2 * sp) (past-first f y h e)), below-reach f s lt (before-last f y h e))
+
+pub whole-or : (f : ReduceFilter) (n : ℕ) → (wholeOf f n ≤ n) × ((wholeOf f n ≡ n) ⊎ (lastRow f ≡ 3))
+whole-or Average n = (omega arith, inl refl)
+whole-or Bilinear n = (omega arith, inl refl)
+whole-or Quadratic n = (omega arith, inl refl)
+whole-or Cubic n = (omega arith, inr refl)

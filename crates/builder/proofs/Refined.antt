@@ -17,12 +17,14 @@ use Rattle.filters.specs.Refine.{halfHorizontal, halfVertical}
 use Rattle.filters.specs.declared.half_pel.HalfPel.{HalfPel}
 use Rattle.filters.proofs.Tables.{tab-length, tab-ext}
 use Rattle.filters.proofs.Lengths.{means-length, half-horizontal-length, half-vertical-length}
-use Rattle.builder.specs.Canvas.{fetch, put, steps, copyRun}
+use Rattle.layouts.specs.Storing.{put, steps}
+use Rattle.layouts.proofs.Loops.{row-in, row-fits, put-plain}
+use Rattle.builder.specs.Canvas.{fetch, copyRun}
 use Rattle.builder.specs.declared.refining.Interp.{Interp}
 use Rattle.builder.specs.declared.refining.Pair.{Pair}
 use Rattle.builder.specs.Refining.{pairRun, pairPlane, horizontalPlane, verticalRun, verticalPlane, planeAt, meanPlanes, kernelPlanes, pairOf, pairs, quarter, foldPairs}
 use Rattle.builder.specs.Room.{PairPlane, OnePlane, Planes, Halves, Quarter}
-use Rattle.builder.proofs.Runs.{Inside, inside-put, inside-then, inside-steps, row-in, row-fits, fetch-at, fetch-length, fetch-left, fetch-before, fetch-stored, put-plain, put-before, put-past, put-left}
+use Rattle.builder.proofs.Runs.{Inside, inside-put, inside-then, inside-steps, fetch-at, fetch-length, fetch-left, fetch-before, fetch-stored, put-before, put-past, put-left}
 
 tab-next : (f : ℕ → ℕ) (n : ℕ) → tab f (n + 1) ≡ tab f n ++ (f n ∷ [])
 unfolding tab

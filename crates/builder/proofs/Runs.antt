@@ -1,19 +1,16 @@
--- Laws of the canvas: what is read of two lists one after the other, and what is stored in them; then `steps`; stages that keep a list's length; last those that stay inside the first of two. Assumes nothing.
-use mathlib.Core.Path.{_≡_, refl, sym, ap, _∙_, subst}
+-- Laws of the canvas: what is read of two lists one after the other, and what is stored in them; then loops over frame, spill and scratch; stages that keep a list's length; last those that stay inside the first of two. Assumes nothing.
+use mathlib.Core.Path.{_≡_, refl, sym, ap, _∙_}
 use mathlib.Core.List.{List, [], _++_, append-assoc, append-nil}
-use mathlib.Core.Logic.{_⊎_, ⊎-elim}
-use Prim.Native.Nat.{ℕ, zero, suc, _+_, _*_, _-_, _≤_, _<_, max}
-use native.Mathlib.Nat.{mul-le-mul-right, add-mul, one-mul}
-use native.Mathlib.Numerals.{add-one, add-one-le}
+use mathlib.Core.Logic.{⊎-elim}
+use Prim.Native.Nat.{ℕ, zero, suc, _+_, _-_, _≤_, _<_, max}
 use native.Mathlib.Omega.{arith}
 use lib.ListN.{length, getD, take, drop, replicate, length-append, length-take, length-drop, length-replicate, getD-replicate, take-append-drop, drop-of-length-le, List·getD-append, List·getD-eq-default}
 use lib.Seq.{take-at, drop-at, take-all, getD-take, getD-drop, getD-append-add, length-take-le, take-append-le, drop-append-le, take-append-add, drop-append-add}
-use mir.Syntax.{Width}
-use mir.Val.{Fits}
-use mir.Facts.{fits-le}
 use Rattle.filters.proofs.Tests.{below-or}
 use Rattle.filters.proofs.Tables.{tab-length, tab-at, is-tab}
-use Rattle.builder.specs.Canvas.{fetch, put, steps}
+use Rattle.layouts.specs.Storing.{put, steps}
+use Rattle.layouts.proofs.Loops.{put-plain, put-lent, Walked, walked-none, walked-more, walked-next}
+use Rattle.builder.specs.Canvas.{fetch}
 
 second-at : (a b : List ℕ) (i k : ℕ) → i ≡ length a + k → getD (a ++ b) i 0 ≡ getD b k 0
 second-at a b i k e = ap (λ (j : ℕ). getD (a ++ b) j 0) e ∙ getD-append-add a b k 0
@@ -148,15 +145,6 @@ put-reaches c at ys = simp (length-append, length-take, length-drop) (omega (ari
 pub put-length : (c : List ℕ) (at : ℕ) (ys : List ℕ) → at + length ys ≤ length c → length (put c at ys) ≡ length c
 put-length c at ys fits = put-reaches c at ys ∙ omega arith
 
--- inside the list there is no gap
-pub put-plain : (c : List ℕ) (at : ℕ) (ys : List ℕ) → at ≤ length c → put c at ys ≡ take at c ++ (ys ++ drop (length ys) (drop at c))
-unfolding put
-put-plain c at ys le = let none : at - length c ≡ 0 = omega arith in ap (λ (k : ℕ). take at c ++ (replicate k 0 ++ (ys ++ drop (length ys) (drop at c)))) none
-
--- a part that was lent and comes back as ys
-pub put-lent : (c ys : List ℕ) (at k : ℕ) → length ys ≡ k → at ≤ length c → take at c ++ (ys ++ drop k (drop at c)) ≡ put c at ys
-put-lent c ys at k e le = ap (λ (j : ℕ). take at c ++ (ys ++ drop j (drop at c))) (sym e) ∙ sym (put-plain c at ys le)
-
 -- the part from at on, as long as ys, was lent and came back as a copy of ys
 pub put-part : (c ys l : List ℕ) (at : ℕ) → at + length ys ≤ length c → l ≡ take (length (take (at + length ys - at) (drop at c))) ys → take at c ++ (l ++ drop (at + length ys - at) (drop at c)) ≡ put c at ys
 put-part c ys l at fits e =
@@ -164,13 +152,6 @@ put-part c ys l at fits e =
     let long : length ys ≤ length (take (at + length ys - at) (drop at c)) = omega (arith, length-take (at + length ys - at) (drop at c), length-drop at c) in
     ap (λ (x : List ℕ). take at c ++ (x ++ drop (at + length ys - at) (drop at c))) (e ∙ take-all (length (take (at + length ys - at) (drop at c))) ys long)
     ∙ put-lent c ys at (at + length ys - at) (sym n) (omega arith)
-
--- the part from a to e was lent and came back as zeros
-pub put-zeros : (c l : List ℕ) (a e : ℕ) → a ≤ e → e ≤ length c → l ≡ replicate (length (take (e - a) (drop a c))) 0 → take a c ++ (l ++ drop (e - a) (drop a c)) ≡ put c a (replicate (e - a) 0)
-put-zeros c l a e ordered fits is =
-    let n : length (take (e - a) (drop a c)) ≡ e - a = length-take (e - a) (drop a c) ∙ omega (arith, length-drop a c) in
-    ap (λ (x : List ℕ). take a c ++ (x ++ drop (e - a) (drop a c))) (is ∙ ap (λ (k : ℕ). replicate k 0) n)
-    ∙ put-lent c (replicate (e - a) 0) a (e - a) (length-replicate (e - a) 0) (omega arith)
 
 -- what is read of a list after ys was stored, wherever the list ended: before it, itself, and past it
 pub put-grows : (c : List ℕ) (at : ℕ) (ys : List ℕ) → length c ≤ length (put c at ys)
@@ -269,51 +250,9 @@ store-cut F S ys l m at low long e f =
     ∙ put-over F S ys at k (omega arith) long
 
 -- ---- rows
--- row y of h rows that are p apart ends within them
-pub row-in : (y h p : ℕ) → y < h → y * p + p ≤ h * p
-row-in y h p lt = subst (λ (k : ℕ). k ≤ h * p) (add-mul y 1 p ∙ ap (λ (k : ℕ). y * p + k) (one-mul p)) (mul-le-mul-right p (add-one-le lt))
-
-pub row-fits : (len s n p rows y : ℕ) → n ≤ p → s + rows * p ≤ len → y < rows → s + y * p + n ≤ len
-row-fits len s n p rows y fits in' lt = omega (arith, row-in y rows p lt)
-
-pub steps-next : (step : ℕ → List ℕ → List ℕ) (n : ℕ) (c : List ℕ) → steps step (n + 1) c ≡ step n (steps step n c)
-unfolding steps
-steps-next step n c = rw (add-one n)
-
 -- two lists that kept their lengths
 pub both-lengths : (F S G T : List ℕ) → length F ≡ length G → length S ≡ length T → length (F ++ S) ≡ length (G ++ T)
 both-lengths F S G T e f = length-append F S ∙ omega (arith, length-append G T)
-
--- the next turn of a loop of h turns: its number fits, and fewer turns are left
-pub next-fits : {w : Width} {y h : ℕ} → y < h → Fits w h → Fits w (y + 1)
-next-fits lt fits = fits-le (add-one-le lt) fits
-
-pub next-less : {y h : ℕ} → y < h → h - (y + 1) < h - y
-next-less lt = omega arith
-
--- what a loop over rows knows at its head
-pub record Walked (step : ℕ → List ℕ → List ℕ) (c₀ c : List ℕ) (h y : ℕ) : Type 0 where
-  pub most : y ≤ h
-  pub same : length c ≡ length c₀
-  pub is : c ≡ steps step y c₀
-
-pub walked-none : {step : ℕ → List ℕ → List ℕ} {c₀ : List ℕ} {h : ℕ} → Walked step c₀ c₀ h 0
-unfolding steps
-walked-none = record { most = omega arith; same = refl; is = refl }
-
-pub walked-more : {step : ℕ → List ℕ → List ℕ} {c₀ c c' : List ℕ} {h y : ℕ} → Walked step c₀ c h y → y < h → length c' ≡ length c → c' ≡ step y c → Walked step c₀ c' h (y + 1)
-walked-more {step} {c₀} {c} {c'} {h} {y} w lt len e =
-    record { most = omega arith; same = len ∙ w .same; is = e ∙ ap (step y) (w .is) ∙ sym (steps-next step y c₀) }
-
-pub walked-whole : {step : ℕ → List ℕ → List ℕ} {c₀ c : List ℕ} {h y : ℕ} → Walked step c₀ c h y → h ≤ y → c ≡ steps step h c₀
-walked-whole {step} {c₀} {c} {h} {y} w le = let e : y ≡ h = omega arith in w .is ∙ ap (λ (k : ℕ). steps step k c₀) e
-
--- a loop that counts from 1
-pub walked-next : (step : ℕ → List ℕ → List ℕ) {c₀ c c' : List ℕ} {h y : ℕ} → 1 ≤ y → Walked (λ i. step (i + 1)) c₀ c (h - 1) (y - 1) → y < h → length c' ≡ length c → c' ≡ step y c → Walked (λ i. step (i + 1)) c₀ c' (h - 1) (y + 1 - 1)
-walked-next step {c₀} {c} {c'} {h} {y} some w lt len e =
-    let here : y ≡ y - 1 + 1 = omega arith in
-    let next : y - 1 + 1 ≡ y + 1 - 1 = omega arith in
-    subst (λ (k : ℕ). Walked (λ i. step (i + 1)) c₀ c' (h - 1) k) next (walked-more w (omega arith) len (e ∙ ap (λ (k : ℕ). step k c) here))
 
 -- what a loop over rows, planes or levels knows at its head, of frame, spill and scratch
 pub record Passed (step : ℕ → List ℕ → List ℕ) (F₀ S₀ X₀ F S X : List ℕ) (h y : ℕ) : Type 0 where

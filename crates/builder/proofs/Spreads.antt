@@ -8,11 +8,13 @@ use lib.Seq.{length-take-le}
 use Rattle.filters.specs.declared.halving.ReduceFilter.{ReduceFilter}
 use Rattle.filters.specs.Halve.{Apart, headed, reducedApart}
 use Rattle.filters.proofs.Pairs.{reduced-apart}
-use Rattle.builder.specs.declared.layout.Region.{Region}
-use Rattle.builder.specs.Canvas.{fetch, put}
+use Rattle.layouts.specs.declared.layout.Region.{Region}
+use Rattle.layouts.specs.Storing.{put}
+use Rattle.layouts.proofs.Loops.{row-in}
+use Rattle.builder.specs.Canvas.{fetch}
 use Rattle.builder.specs.Halving.{halveRun}
 use Rattle.builder.specs.Room.{Spread}
-use Rattle.builder.proofs.Runs.{fetch-length, row-in}
+use Rattle.builder.proofs.Runs.{fetch-length}
 
 -- ---- rows
 -- row y of h that are 2 * p apart

@@ -8,8 +8,9 @@ use Rattle.filters.specs.declared.halving.ReduceFilter.{ReduceFilter}
 use Rattle.filters.specs.declared.halving.ReduceFilter.the-variants.{Average, Bilinear, Quadratic, Cubic}
 use Rattle.filters.specs.Row.{meansOf, sixes}
 use Rattle.filters.specs.Halve.{isEdge, weigh, restOf, horizontalRow}
-use Rattle.builder.specs.declared.layout.Region.{Region}
-use Rattle.builder.specs.Canvas.{fetch, put, steps, copyRun, _▷_}
+use Rattle.layouts.specs.declared.layout.Region.{Region}
+use Rattle.layouts.specs.Storing.{put, steps}
+use Rattle.builder.specs.Canvas.{fetch, copyRun, _▷_}
 
 -- "Generic cubic covers only whole eights so"
 abbrev pub wholeOf : ReduceFilter → ℕ → ℕ

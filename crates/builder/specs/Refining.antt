@@ -9,9 +9,10 @@ use Rattle.filters.specs.declared.half_pel.Upscale.{Upscale}
 use Rattle.filters.specs.declared.half_pel.Upscale.the-variants.{Means, Kernel}
 use Rattle.filters.specs.Row.{meansOf}
 use Rattle.filters.specs.Refine.{halfHorizontal, halfVertical}
+use Rattle.layouts.specs.Storing.{put, steps}
 use Rattle.builder.specs.declared.refining.Interp.{Interp}
 use Rattle.builder.specs.declared.refining.Pair.{Pair}
-use Rattle.builder.specs.Canvas.{fetch, put, steps, copyRun, _▷_}
+use Rattle.builder.specs.Canvas.{fetch, copyRun, _▷_}
 
 -- "over the width raised to a multiple of 16"
 abbrev pub chunked : ℕ → ℕ

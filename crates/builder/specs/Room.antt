@@ -1,26 +1,9 @@
--- What the inner calls need of offsets, and of the slices that they are lent. `layoutNo`, `buildNo` and the laws of proofs/ give it to each.
-use mathlib.Core.Path.{_≡_}
+-- What the inner calls need of the slices that they are lent. `layoutNo`, `buildNo` and the laws of proofs/ give it to each.
 use Prim.Native.Nat.{ℕ, _+_, _*_, _≤_}
-use Rattle.settings.specs.Limits.{mostSide, mostPitch, mostLevels}
-use Rattle.builder.specs.declared.layout.Layout.{Layout}
-use Rattle.builder.specs.declared.layout.Region.{Region}
+use Rattle.settings.specs.Limits.{mostSide, mostPitch}
+use Rattle.layouts.specs.declared.layout.Region.{Region}
 use Rattle.builder.specs.declared.refining.Interp.{Interp}
 use Rattle.builder.specs.declared.refining.Pair.{Pair}
-use Rattle.builder.specs.Layout.{widthAt, writtenEnd, spillNeed, scratchNeed}
-use Rattle.builder.specs.Numbers.{layoutNo, sourceNeed}
-
--- what no offset of an accepted layout exceeds
-abbrev pub mostOffset : ℕ
-mostOffset = mostLevels * (16 * mostSide * mostPitch)
-
--- what `buildNo` leaves: a source plane of n bytes, its rows sp apart, a frame of len bytes, and so many bytes of spill and scratch
-pub record Ready (q : Layout) (n sp len spill scratch : ℕ) : Type 0 where
-  pub layout : layoutNo q ≡ 0
-  pub pitch : widthAt q 0 ≤ sp
-  pub source : sourceNeed q sp ≤ n
-  pub end : writtenEnd q ≤ len
-  pub spills : spillNeed q ≤ spill
-  pub room : scratchNeed q ≤ scratch
 
 -- a source of len bytes has, from base on, 2 * h rows of n bytes, sp apart
 pub record Source (len base sp n h : ℕ) : Type 0 where

@@ -4,7 +4,8 @@ ghost use mathlib.Core.Path.{_≡_};
 ghost use mathlib.Core.List.{_++_};
 ghost use Prim.Native.Nat.{_+_, _-_, _≤_};
 ghost use lib.ListN.{length, replicate};
-ghost use Rattle.builder.specs.Canvas.{fetch, put};
+ghost use Rattle.layouts.specs.Storing.{put};
+ghost use Rattle.builder.specs.Canvas.{fetch};
 use filters::rows::copy_row;
 use filters::rows::zero_row;
 
@@ -34,7 +35,7 @@ fn read(out: &mut [u8], c: &[u8], start: usize)
     zero_row(&mut out[k..]);
 }
 
-pub fn fetch(out: &mut [u8], frame: &[u8], spill: &[u8], start: usize)
+pub(crate) fn fetch(out: &mut [u8], frame: &[u8], spill: &[u8], start: usize)
     ensures { λ r. ⌜ now (out .exit) ≡ fetch (now (frame .entry) ++ now (spill .entry)) start (length (now (out .entry))) ⌝ }
 {
     let len = frame.len();
@@ -68,7 +69,7 @@ fn fetched<'a>(
 }
 
 // n bytes of the canvas: a part of the frame where they lie in it, else a part of scratch.
-pub fn window<'a>(
+pub(crate) fn window<'a>(
     frame: &'a [u8],
     spill: &'a [u8],
     scratch: &'a mut [u8],
@@ -96,7 +97,7 @@ pub fn put(c: &mut [u8], start: usize, row: &[u8])
     copy_row(&mut c[start..end], row);
 }
 
-pub fn zero_run(c: &mut [u8], start: usize, end: usize)
+pub(crate) fn zero_run(c: &mut [u8], start: usize, end: usize)
     requires { ⌜ (start ≤ end) × (end ≤ length (now c)) ⌝ }
     ensures { λ r. ⌜ now (c .exit) ≡ put (now (c .entry)) start (replicate (end - start) 0) ⌝ }
 {
@@ -104,7 +105,7 @@ pub fn zero_run(c: &mut [u8], start: usize, end: usize)
 }
 
 // What lies past the frame goes to the spill.
-pub fn store(frame: &mut [u8], spill: &mut [u8], start: usize, row: &[u8])
+pub(crate) fn store(frame: &mut [u8], spill: &mut [u8], start: usize, row: &[u8])
     requires { ⌜ start + length (now row) ≤ length (now frame) + length (now spill) ⌝ }
     ensures { λ r. ⌜ now (frame .exit) ++ now (spill .exit) ≡ put (now (frame .entry) ++ now (spill .entry)) start (now (row .entry)) ⌝ }
 {

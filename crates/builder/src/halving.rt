@@ -4,16 +4,16 @@ ghost use mathlib.Core.Path.{_≡_};
 ghost use Prim.Native.Nat.{_+_, _*_, _≤_, _<_};
 ghost use lib.ListN.{length};
 ghost use Rattle.filters.specs.declared.halving.ReduceFilter.the-variants.{Cubic};
-ghost use Rattle.builder.specs.Canvas.{put};
+ghost use Rattle.layouts.specs.Storing.{put};
 ghost use Rattle.builder.specs.Halving.{wholeOf, verticalLine, verticalRows, halveRun, horizontalRows, fromStored, fusedLine, fused};
 ghost use Rattle.builder.specs.Room.{Within};
 use crate::canvas::put;
 use crate::canvas::span;
 use crate::canvas::zero_run;
-use crate::layout::Region;
 use crate::vertical::vertical_line;
 use filters::halving::ReduceFilter;
 use filters::halving::deinterleave;
+use layouts::layout::Region;
 
 fn vertical_row(
     filter: ReduceFilter,

@@ -4,18 +4,19 @@ ghost use mathlib.Core.Path.{_≡_};
 ghost use mathlib.Core.List.{_++_};
 ghost use Prim.Native.Nat.{_+_, _*_, _≤_, _<_};
 ghost use lib.ListN.{length};
-ghost use Rattle.filters.specs.Halve.{Apart, headed};
 ghost use Rattle.settings.specs.Limits.{mostSide};
-ghost use Rattle.builder.specs.Canvas.{fetch, put, copyRun};
+ghost use Rattle.filters.specs.Halve.{Apart, headed};
+ghost use Rattle.layouts.specs.Storing.{put};
+ghost use Rattle.builder.specs.Canvas.{fetch, copyRun};
 ghost use Rattle.builder.specs.Halving.{wholeOf, verticalLine, verticalRows, halveRun, horizontalRows, closeUp, fromSource};
 ghost use Rattle.builder.specs.Room.{Spread};
 use crate::canvas::fetch;
 use crate::canvas::store;
 use crate::canvas::window;
-use crate::layout::Region;
 use crate::vertical::vertical_line;
 use filters::halving::ReduceFilter;
 use filters::halving::deinterleave;
+use layouts::layout::Region;
 use settings::limits::MOST_SIDE;
 
 // The most bytes of a row taken apart, 2 more than those of the row: twice level 1's width is at most the width of the widest picture.

@@ -1,9 +1,9 @@
 // Document 01, "Checked by hand", what is run by a program: the number of a frame that is exactly long enough and of one a byte short, whether targets 8, 7 and 10 wide fuse, and the bytes of level 1 that refining overwrites.
 // A fused level keeps the margins that it has when they are cleared; another's are zeroed. Last, the smallest picture whose build depends on bytes past the written end.
-use builder::build::build_plane;
-use builder::layout::Layout;
-use builder::margins::clear_margins;
+use layouts::layout::Layout;
+use layouts::margins::clear_margins;
 use libc::STDOUT_FILENO;
+use planes::build::build_plane;
 use settings::refusal::Tested;
 use settings::super_opts::Checked;
 use settings::super_opts::OptBool;

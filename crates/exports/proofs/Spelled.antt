@@ -9,12 +9,12 @@ use lib.IntN.{ℤ}
 use lib.ListN.{length}
 use borrow.Author.Tests.{ltb-false}
 use Rattle.settings.specs.declared.refusal.Refusal.{Refusal}
-use Rattle.settings.specs.declared.longhand.Longhand.{Longhand}
 use Rattle.settings.specs.Numbers.{refuse, _then_}
 use Rattle.settings.specs.Answers.{Answer, answer, number, written}
-use Rattle.settings.specs.Longhand.{lengthOf, kindOf, placeAfter, bodyOf, kindLength, isBody, frameNo, longhandNo, noLonghand, longhandAnswer}
 use Rattle.settings.proofs.Known.{number-some, number-not-16, number-of}
 use Rattle.settings.proofs.Tests.{or-false-left, or-false-right}
+use Rattle.longhands.specs.declared.longhand.Longhand.{Longhand}
+use Rattle.longhands.specs.Longhand.{lengthOf, kindOf, placeAfter, bodyOf, kindLength, isBody, frameNo, longhandNo, noLonghand, longhandAnswer}
 use Rattle.exports.specs.Numbers.{numbersOf}
 use Rattle.exports.specs.Answers.{lowest, tells, longhandReadNo, fieldsTells, placeTells}
 use Rattle.exports.proofs.Putting.{put-fits}

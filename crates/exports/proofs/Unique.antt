@@ -14,12 +14,12 @@ use Rattle.exports.proofs.words.sill_prepare_alike.Reads as sill-prepar
 use Rattle.exports.proofs.words.sill_super_sizes.Reads as sill-super-sizes-reads
 use Rattle.exports.proofs.longhand.sill_longhand_write.Reads as sill-longhand-write-reads
 use Rattle.exports.proofs.longhand.sill_longhand_read.Reads as sill-longhand-read-reads
-use Rattle.exports.proofs.planes.sill_level_regions.Reads as sill-level-regions-reads
-use Rattle.exports.proofs.planes.sill_written_end.Reads as sill-written-end-reads
-use Rattle.exports.proofs.planes.sill_needs.Reads as sill-needs-reads
-use Rattle.exports.proofs.planes.sill_clear_margins.Reads as sill-clear-margins-reads
-use Rattle.exports.proofs.planes.sill_row.Reads as sill-row-reads
-use Rattle.exports.proofs.planes.sill_build_plane.Reads as sill-build-plane-reads
+use Rattle.exports.proofs.plane.sill_level_regions.Reads as sill-level-regions-reads
+use Rattle.exports.proofs.plane.sill_written_end.Reads as sill-written-end-reads
+use Rattle.exports.proofs.plane.sill_needs.Reads as sill-needs-reads
+use Rattle.exports.proofs.plane.sill_clear_margins.Reads as sill-clear-margins-reads
+use Rattle.exports.proofs.plane.sill_row.Reads as sill-row-reads
+use Rattle.exports.proofs.plane.sill_build_plane.Reads as sill-build-plane-reads
 
 pub sill-check-unique : (κs : Lfts 1) → OneOutcome (sill-check-reads.Post κs) (λ r e. answer r (now (e .1 .1 .1 .1 .1 .1 .1 .1 .1 .1 .0)))
 sill-check-unique κs x r s e f p q = settled itself p q

@@ -11,11 +11,11 @@ use Rattle.settings.specs.Check.{settled, settingsNo, recordNo, superHeight, su
 use Rattle.settings.specs.Word.{packNo, wordOf}
 use Rattle.settings.specs.Reading.{candidate, readNo, describe}
 use Rattle.settings.specs.Answers.{Answer, answer, complete, written}
-use Rattle.settings.specs.Longhand.{longhandNo, longhandAnswer}
-use Rattle.builder.specs.declared.layout.Layout.{Layout}
-use Rattle.builder.specs.Layout.{levelsOf, regionOr, writtenEnd}
-use Rattle.builder.specs.Numbers.{layoutNo, rowNo}
-use Rattle.builder.specs.Answers.{columns, needsOf, runOf}
+use Rattle.longhands.specs.Longhand.{longhandNo, longhandAnswer}
+use Rattle.layouts.specs.declared.layout.Layout.{Layout}
+use Rattle.layouts.specs.Layout.{levelsOf, regionOr, writtenEnd}
+use Rattle.layouts.specs.Numbers.{layoutNo, rowNo}
+use Rattle.layouts.specs.Answers.{columns, needsOf, runOf}
 use Rattle.exports.specs.Numbers.{numbersOf, toldNumbers, columnNumbers, needNumbers, runNumbers}
 
 -- n, unless the slice is too short for the answer, document 02's 15, and no lower number applies

@@ -15,10 +15,10 @@ use Rattle.settings.specs.declared.word.Description.{Description}
 use Rattle.settings.specs.Numbers.{isNat, bit}
 use Rattle.settings.specs.Check.{intOr}
 use Rattle.settings.specs.Answers.{noRecord}
-use Rattle.builder.specs.declared.layout.Layout.{Layout}
-use Rattle.builder.specs.declared.layout.Needs.{Needs}
-use Rattle.builder.specs.declared.rows.Run.{Run}
-use Rattle.builder.specs.Answers.{Columns}
+use Rattle.layouts.specs.declared.layout.Layout.{Layout}
+use Rattle.layouts.specs.declared.layout.Needs.{Needs}
+use Rattle.layouts.specs.declared.rows.Run.{Run}
+use Rattle.layouts.specs.Answers.{Columns}
 
 abbrev pub flag : Bool → ℤ
 flag b = pos (bit b)

@@ -1,7 +1,7 @@
 // A record spelled out as bytes: document 02's longhand record, written and read.
 ghost use mathlib.Core.Path.{_≡_};
 ghost use Rattle.settings.specs.Answers.{answer};
-ghost use Rattle.settings.specs.Longhand.{writeAnswer};
+ghost use Rattle.longhands.specs.Longhand.{writeAnswer};
 ghost use Rattle.exports.specs.Numbers.{recordOf};
 ghost use Rattle.exports.specs.Answers.{longhandReadNo, fieldsTells, placeTells};
 use crate::record::FIELDS;
@@ -11,10 +11,10 @@ use crate::room::TOO_SHORT;
 use crate::room::number;
 use crate::room::put_numbers;
 use crate::room::put_sizes;
-use settings::longhand::Read;
-use settings::longhand::UNKNOWN_KIND;
-use settings::longhand::read_longhand;
-use settings::longhand::write_longhand;
+use longhands::longhand::Read;
+use longhands::longhand::UNKNOWN_KIND;
+use longhands::longhand::read_longhand;
+use longhands::longhand::write_longhand;
 
 // Refusals 6, 15.
 #[no_mangle]

@@ -4,7 +4,7 @@ ghost use Prim.Native.Nat.{_≤_};
 ghost use lib.ListN.{length};
 ghost use Rattle.settings.specs.Answers.{noRecord};
 ghost use Rattle.exports.specs.Numbers.{flag, isFlag, isRecord, fieldsOf, recordOf, layoutOf, numbersOf};
-use builder::layout::Layout;
+use layouts::layout::Layout;
 use settings::super_opts::SuperOpts;
 
 // How many numbers a record has.

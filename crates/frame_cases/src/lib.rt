@@ -2,7 +2,7 @@
 // First what is read of a case; then what is answered.
 ghost use Prim.Native.Nat.{_+_, _*_, _≤_, _<_};
 ghost use lib.ListN.{length};
-use builder::layout::Layout;
+use layouts::layout::Layout;
 use libc::STDOUT_FILENO;
 use settings::numbers::from_bits;
 use settings::refusal::Tested;

@@ -5,11 +5,11 @@ use Prim.Native.Nat.{ℕ}
 use lib.ListN.{replicate}
 use Rattle.settings.specs.declared.refusal.Refusal.{Refusal}
 use Rattle.settings.specs.declared.super_opts.SuperOpts.{SuperOpts}
-use Rattle.settings.specs.declared.longhand.Longhand.{Longhand}
-use Rattle.settings.specs.declared.longhand.Read.the-variants.{Record, Unknown, Refused}
 use Rattle.settings.specs.Answers.{answer, number, noRecord}
-use Rattle.settings.specs.Longhand.{readAs, kind1Bytes, writeAnswer}
 use Rattle.settings.proofs.Known.{number-some, number-not-16}
+use Rattle.longhands.specs.declared.longhand.Longhand.{Longhand}
+use Rattle.longhands.specs.declared.longhand.Read.the-variants.{Record, Unknown, Refused}
+use Rattle.longhands.specs.Longhand.{readAs, kind1Bytes, writeAnswer}
 use Rattle.lines.specs.Text.{decimal, spaced, hexText}
 use Rattle.lines.specs.Longhand.{optsText, wordText, readText, writtenText, checkedText}
 

@@ -8,9 +8,9 @@ use lib.ListN.{length, replicate}
 use Rattle.settings.specs.declared.super_opts.Settings.{Settings}
 use Rattle.settings.specs.declared.super_opts.SuperOpts.{SuperOpts}
 use Rattle.settings.specs.Check.{intOr}
-use Rattle.settings.specs.declared.longhand.Longhand.{Longhand}
 use Rattle.settings.specs.Answers.{Answer, checkAnswer, packAnswer}
-use Rattle.settings.specs.Longhand.{kind1Bytes, longhandAnswer, writeAnswer}
+use Rattle.longhands.specs.declared.longhand.Longhand.{Longhand}
+use Rattle.longhands.specs.Longhand.{kind1Bytes, longhandAnswer, writeAnswer}
 use Rattle.lines.specs.Limits.{mostInput}
 use Rattle.lines.specs.Text.{hexOf, allDigits, decimal, signed, spaced, flagsText, hexDigits, hexText}
 use Rattle.lines.specs.Parting.{times, fieldAt}

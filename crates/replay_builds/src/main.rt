@@ -4,7 +4,6 @@
 // The answer is the number (4 bytes), the sums of frame, spill and scratch after the call (8 bytes each) and, if asked for, the frame.
 // A sum is two numbers of 4 bytes: from 1 on, h becomes (h * m + byte) modulo 4,294,967,291, with m = 1,000,003 for the first and m = 998,244,353 for the second.
 ghost use Prim.Native.Nat.{_<_};
-use builder::build::build_plane;
 use frame_cases::layout_of;
 use frame_cases::long;
 use frame_cases::put_number;
@@ -13,6 +12,7 @@ use frame_cases::word;
 use libc::STDERR_FILENO;
 use libc::STDIN_FILENO;
 use libc::STDOUT_FILENO;
+use planes::build::build_plane;
 
 // The largest: a plane of 1920x1080 with all its levels, and the scratch of the widest pitch.
 fn main() {

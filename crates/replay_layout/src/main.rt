@@ -3,13 +3,13 @@
 // In: the record's pel gpu down up full rc lean levels width height, the shifts, the pitch (two words).
 // Out: the layout's number, the count of levels, for each of 13 levels its offset (two words), width and height; the number of the written end and the end (two words).
 ghost use Prim.Native.Nat.{_<_};
-use builder::layout::Ended;
-use builder::layout::Laid;
-use builder::layout::Layout;
 use hex_lines::bool_at;
 use hex_lines::int_at;
 use hex_lines::put_word;
 use hex_lines::word_at;
+use layouts::layout::Ended;
+use layouts::layout::Laid;
+use layouts::layout::Layout;
 use libc::STDIN_FILENO;
 use libc::STDOUT_FILENO;
 use settings::refusal::Tested;

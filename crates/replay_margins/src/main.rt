@@ -1,13 +1,13 @@
 // Answers cases about a frame's margins and rows, from standard input to standard output: what the comparison with the Rust runs, and the gate on a list of the Rust's own answers.
 // A case is 20 words and a frame: the 14 of a layout (see `frame_cases`), the frame's length, then level, plane and row, the kind and a zero.
 // Kind 0, clear the margins: the answer is the number (4 bytes) and the frame. Kind 1, a row: the number, the row's length (4 bytes each) and the row.
-use builder::margins::clear_margins;
-use builder::rows::row;
-use builder::rows::row_tested;
 use frame_cases::layout_of;
 use frame_cases::put_number;
 use frame_cases::put_tested;
 use frame_cases::word;
+use layouts::margins::clear_margins;
+use layouts::rows::row;
+use layouts::rows::row_tested;
 use libc::STDIN_FILENO;
 use libc::STDOUT_FILENO;
 

@@ -18,19 +18,15 @@ use Rattle.settings.specs.declared.super_opts.Sized.{Sized}
 use Rattle.settings.specs.declared.super_opts.Sized.the-variants.{Size, Refused as SizeRefused}
 use Rattle.settings.specs.declared.word.Told.{Told}
 use Rattle.settings.specs.declared.word.Told.the-variants.{Tells, Refused as ReadRefused}
-use Rattle.settings.specs.declared.longhand.Longhand.{Longhand}
-use Rattle.settings.specs.declared.longhand.Read.{Read}
-use Rattle.settings.specs.declared.longhand.Read.the-variants.{Record, Unknown, Refused as LonghandRefused}
 use Rattle.settings.specs.Numbers.{_then_}
 use Rattle.settings.specs.Answers.{Answer, answer, complete, number, tested, checked, packed, sized, told, noRecord, noDescription}
-use Rattle.settings.specs.Longhand.{readAs}
 
 -- ---- a refusal's number tells which refusal it is, and is not 0
 -- the refusal of a number
-abbrev refusalOf : ℕ → Refusal
+abbrev pub refusalOf : ℕ → Refusal
 refusalOf n = cond (eqb n 1) Pel (cond (eqb n 2) Gpu (cond (eqb n 3) Finest (cond (eqb n 4) Lean (cond (eqb n 5) Side (cond (eqb n 6) NoRecord (cond (eqb n 7) Shift (cond (eqb n 8) Pitch (cond (eqb n 9) SourcePitch (cond (eqb n 10) Source (cond (eqb n 11) Frame (cond (eqb n 12) Spill (cond (eqb n 13) Scratch (cond (eqb n 14) Levels (cond (eqb n 15) Short (cond (eqb n 17) Length (cond (eqb n 18) Contents (cond (eqb n 19) NoRow (cond (eqb n 20) NoCode (cond (eqb n 21) Halving (Upscale))))))))))))))))))))
 
-number-back : (f : Refusal) → refusalOf (number f) ≡ f
+pub number-back : (f : Refusal) → refusalOf (number f) ≡ f
 number-back Pel = refl
 number-back Gpu = refl
 number-back Finest = refl
@@ -141,15 +137,3 @@ told-back (ReadRefused f) = refusal-back Tells ReadRefused f noDescription
 
 pub told-known : (a b : Told) → told a ≡ told b → a ≡ b
 told-known = known-by told (from Tells ReadRefused) told-back
-
--- an unknown kind has a place, and a number that is no refusal's
-abbrev read-from : Answer Longhand → Read
-read-from a = cond (eqb (a .no) 0) (Record (a .value)) (cond (eqb (a .no) 16) (Unknown (a .value .after)) (LonghandRefused (refusalOf (a .no))))
-
-read-back : (a : Read) → read-from (readAs a) ≡ a
-read-back (Record h) = refl
-read-back (Unknown place) = refl
-read-back (LonghandRefused f) = rw (number-some f, number-not-16 f, number-back f)
-
-pub read-known : (a b : Read) → readAs a ≡ readAs b → a ≡ b
-read-known = known-by readAs read-from read-back

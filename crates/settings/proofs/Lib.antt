@@ -10,13 +10,8 @@
 --     Words      a packed word's fields, and records with one word
 --     Told       demand 3 as far as records go
 --     Pasting    values copied into a slice
---     Bytes      numbers as bytes
---     Bodies     the body of kind 1 and its record, both ways
---     Longhands  longhand records: what reading comes to, and what writing leaves
---     Encodings  a record survives, has one encoding, and ends where its length says
---     ByHand     document 01's table and a longhand record, computed
+--     ByHand     document 01's table, computed
 --     Outcome    what a call promises, one outcome, and the law behind it
---     Roundtrip  document 02 about the calls: what is written is read, and one record has one encoding
 --     Unique     one outcome for each public call
 pub mod Tests
 pub mod Integers
@@ -29,11 +24,6 @@ pub mod Accepted
 pub mod Words
 pub mod Told
 pub mod Pasting
-pub mod Bytes
-pub mod Bodies
-pub mod Longhands
-pub mod Encodings
 pub mod ByHand
 pub mod Outcome
-pub mod Roundtrip
 pub mod Unique

@@ -1,5 +1,5 @@
 -- Reading a word, and the accepted records that pack to it: demand 3 as far as records go.
--- First the record that a word spells; then `none-exact` (20), `tells-exact` (0), `halving-exact` (21), `upscale-exact` (22), `only-exact`; last `packs-exact`, what a record behind a word is. Byte for byte it is proved in crate builder, proofs/Demanded.antt. Assumes nothing.
+-- First the record that a word spells; then `none-exact` (20), `tells-exact` (0), `halving-exact` (21), `upscale-exact` (22), `only-exact`; last `packs-exact`, what a record behind a word is. Byte for byte it is proved in crate demands, proofs/Demanded.antt. Assumes nothing.
 use mathlib.Core.Path.{_≡_, refl, sym, ap, _∙_, subst}
 use mathlib.Core.Logic.{_↔_, _⊎_, inl, inr}
 use mathlib.Core.Bool.{Bool, true, false, cond, not, _&&_, _||_}

@@ -1,7 +1,5 @@
--- One outcome: no second answer meets the contract of a public call (`OneOutcome`), by one law (`settled`). What is seen of a call is its answer; of `write_longhand`, the only one that is lent something to write, its number with that slice. Assumes nothing.
+-- One outcome: no second answer meets the contract of a public call (`OneOutcome`), by one law (`settled`). What is seen of a call is its answer. Assumes nothing.
 use contract.Lifetimes.{Lfts}
-use denote.Ref.{now}
-use Rattle.settings.specs.Answers.{answer, tested}
 use Rattle.settings.proofs.super_opts.SuperOpts.from_opt.Reads as from-opt-reads
 use Rattle.settings.proofs.super_opts.SuperOpts.pack_data.Reads as pack-data-reads
 use Rattle.settings.proofs.super_opts.SuperOpts.super_height.Reads as super-height-reads
@@ -17,11 +15,9 @@ use Rattle.settings.proofs.numbers.to_bits.Reads as to-bits-reads
 use Rattle.settings.proofs.numbers.from_bits.Reads as from-bits-reads
 use Rattle.settings.proofs.word.read_word.Reads as read-word-reads
 use Rattle.settings.proofs.word.prepare_alike.Reads as prepare-alike-reads
-use Rattle.settings.proofs.longhand.read_longhand.Reads as read-longhand-reads
-use Rattle.settings.proofs.longhand.write_longhand.Reads as write-longhand-reads
 use Rattle.settings.proofs.super_opts.reduce_dim.Reads as reduce-dim-reads
 use Rattle.settings.proofs.Outcome.{OneOutcome, settled, itself}
-use Rattle.settings.proofs.Known.{read-known, told-known, tested-known, checked-known, packed-known, sized-known}
+use Rattle.settings.proofs.Known.{told-known, tested-known, checked-known, packed-known, sized-known}
 
 pub from-opt-unique : (κs : Lfts 0) → OneOutcome (from-opt-reads.Post κs) (λ r e. r)
 from-opt-unique κs x r s e f p q = settled checked-known p q
@@ -70,9 +66,3 @@ prepare-alike-unique κs x r s e f p q = settled itself p q
 
 pub reduce-dim-unique : (κs : Lfts 0) → OneOutcome (reduce-dim-reads.Post κs) (λ r e. r)
 reduce-dim-unique κs x r s e f p q = settled itself p q
-
-pub read-longhand-unique : (κs : Lfts 1) → OneOutcome (read-longhand-reads.Post κs) (λ r e. r)
-read-longhand-unique κs x r s e f p q = settled read-known p q
-
-pub write-longhand-unique : (κs : Lfts 1) → OneOutcome (write-longhand-reads.Post κs) (λ r e. answer (tested r) (now (e .1 .0)))
-write-longhand-unique κs x r s e f p q = settled itself p q

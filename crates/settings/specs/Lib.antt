@@ -1,4 +1,4 @@
--- Document 01, "Settings and sizes", "Numbers a call can give" and "Words read and compared", and document 02's longhand record, as definitions. In the order to read them:
+-- Document 01, "Settings and sizes", "Numbers a call can give" and "Words read and compared", as definitions. In the order to read them:
 --     Limits     its limits, each named once
 --     Numbers    integers, bits and rows of refusals
 --     Sizes      reducing and levels
@@ -6,9 +6,6 @@
 --     Word       the word that a record packs to
 --     Reading    which build a word names, and comparing two words
 --     Answers    the number and value of each call, and of each answer that is an enum
---     LittleEndian  numbers as bytes
---     Kind1      the body of a longhand record of kind 1
---     Longhand   the longhand record: its frame, and the number and value of reading and writing
 -- What is proved of these is in proofs/.
 pub mod Limits
 pub mod Numbers
@@ -17,6 +14,3 @@ pub mod Check
 pub mod Word
 pub mod Reading
 pub mod Answers
-pub mod LittleEndian
-pub mod Kind1
-pub mod Longhand

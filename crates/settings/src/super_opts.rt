@@ -300,7 +300,7 @@ fn joined(height: u64, width: u64, pel: u64, levels: u64, gpu: u64, flags: u64) 
 }
 
 // On i32 sides, 0 for what is below 0.
-pub(crate) fn levels_of(width: i32, height: i32) -> i32
+pub fn levels_of(width: i32, height: i32) -> i32
     ensures { λ r. ⌜ r ≡ pos (levelsOf (toNat width) (toNat height)) ⌝ }
 {
     auto_levels(natural(width), natural(height)) as i32

@@ -7,7 +7,7 @@ use lib.ListN.{length}
 use lib.Seq.{length-take-le}
 use denote.Ref.{now}
 use borrow.Author.Needs.{needs}
-use Rattle.builder.specs.Canvas.{put}
+use Rattle.layouts.specs.Storing.{put}
 use Rattle.builder.proofs.Runs.{put-left, put-right, store-cut}
 use Rattle.builder.proofs.canvas.store.Statement.{statement}
 use Rattle.builder.proofs.canvas.store.Tie as tie

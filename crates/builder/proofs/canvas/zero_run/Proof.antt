@@ -2,7 +2,7 @@
 use Prim.Native.Nat.{_-_}
 use denote.Ref.{now}
 use borrow.Author.Needs.{needs}
-use Rattle.builder.proofs.Runs.{put-zeros}
+use Rattle.layouts.proofs.Loops.{put-zeros}
 use Rattle.builder.proofs.canvas.zero_run.Statement.{statement}
 use Rattle.builder.proofs.canvas.zero_run.Tie as tie
 

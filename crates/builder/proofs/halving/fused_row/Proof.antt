@@ -7,11 +7,10 @@ use lib.ListN.{replicate}
 use native.Mathlib.Nat.{le-refl, add-le-add}
 use denote.Ref.{now}
 use Rattle.filters.specs.declared.halving.ReduceFilter.the-variants.{Cubic}
-use Rattle.builder.specs.Canvas.{put}
+use Rattle.layouts.specs.Storing.{put}
 use Rattle.builder.specs.Halving.{wholeOf, verticalLine, halveRun}
-use Rattle.builder.proofs.Lines.{line-length}
+use Rattle.builder.proofs.Lines.{line-length, whole-or}
 use Rattle.builder.proofs.Halves.{row-within, fused-run, within-kept, halves-within, line-within}
-use Rattle.builder.proofs.Prepared.{whole-or}
 use borrow.Author.Needs.{needs}
 use Rattle.builder.proofs.halving.fused_row.Statement.{statement}
 use Rattle.builder.proofs.halving.fused_row.Tie as tie

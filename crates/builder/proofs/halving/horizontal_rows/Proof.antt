@@ -3,8 +3,8 @@ use mathlib.Core.Path.{_≡_, refl, _∙_}
 use Prim.Native.Nat.{_+_, _*_, _-_}
 use native.Mathlib.Omega.{arith}
 use lib.ListN.{length}
+use Rattle.layouts.proofs.Loops.{row-fits, Walked, walked-none, walked-more, walked-whole, next-fits, next-less}
 use Rattle.builder.specs.Halving.{halveRun, horizontalRows}
-use Rattle.builder.proofs.Runs.{row-fits, Walked, walked-none, walked-more, walked-whole, next-fits, next-less}
 use Rattle.builder.proofs.halving.horizontal_rows.Statement.{statement}
 use Rattle.builder.proofs.halving.horizontal_rows.Tie as tie
 

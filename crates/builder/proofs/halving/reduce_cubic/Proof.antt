@@ -3,10 +3,10 @@ use mathlib.Core.Path.{_≡_, refl, ap, _∙_}
 use Prim.Native.Nat.{ℕ, _+_, _*_, _-_}
 use native.Mathlib.Omega.{arith}
 use lib.ListN.{length}
-use Rattle.builder.specs.Canvas.{put}
 use Rattle.filters.specs.declared.halving.ReduceFilter.the-variants.{Cubic}
+use Rattle.layouts.specs.Storing.{put}
+use Rattle.layouts.proofs.Loops.{Walked, walked-none, walked-more, walked-whole, next-less}
 use Rattle.builder.specs.Halving.{verticalLine, fusedLine, fused}
-use Rattle.builder.proofs.Runs.{Walked, walked-none, walked-more, walked-whole, next-less}
 use Rattle.builder.proofs.Halves.{within-kept}
 use Rattle.builder.proofs.halving.reduce_cubic.Statement.{statement}
 use Rattle.builder.proofs.halving.reduce_cubic.Tie as tie

@@ -4,7 +4,7 @@ use Prim.Native.Nat.{ℕ, _+_, _*_}
 use native.Mathlib.Omega.{arith}
 use borrow.Table.Elements.{same-len}
 use denote.Ref.{now}
-use Rattle.builder.specs.Canvas.{put}
+use Rattle.layouts.specs.Storing.{put}
 use Rattle.builder.specs.Halving.{wholeOf, verticalLine}
 use Rattle.builder.proofs.Halves.{row-within, source-within, halves-within, line-taken}
 use borrow.Author.Needs.{needs}

@@ -6,8 +6,10 @@ use native.Mathlib.Omega.{arith}
 use lib.ListN.{length, take, drop, length-take, length-drop}
 use denote.Ref.{now}
 use borrow.Author.Needs.{needs}
-use Rattle.builder.specs.Canvas.{fetch, put}
-use Rattle.builder.proofs.Runs.{put-lent, fetch-length}
+use Rattle.layouts.specs.Storing.{put}
+use Rattle.layouts.proofs.Loops.{put-lent}
+use Rattle.builder.specs.Canvas.{fetch}
+use Rattle.builder.proofs.Runs.{fetch-length}
 use Rattle.builder.proofs.refining.fetch_into.Statement.{statement}
 use Rattle.builder.proofs.refining.fetch_into.Tie as tie
 

@@ -6,7 +6,8 @@ use Prim.Native.Nat.{ℕ, _+_, _*_}
 use native.Mathlib.Omega.{arith}
 use denote.Ref.{now}
 use borrow.Author.Needs.{needs}
-use Rattle.builder.specs.Canvas.{fetch, put}
+use Rattle.layouts.specs.Storing.{put}
+use Rattle.builder.specs.Canvas.{fetch}
 use Rattle.builder.specs.Refining.{pairRun}
 use Rattle.builder.proofs.Refined.{pair-apart}
 use Rattle.builder.proofs.refining.pair_apart.Statement.{statement}

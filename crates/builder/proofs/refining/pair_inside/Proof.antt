@@ -7,7 +7,7 @@ use lib.ListN.{getD}
 use denote.Ref.{now}
 use borrow.Author.Needs.{needs}
 use Rattle.filters.specs.Row.{meanOf}
-use Rattle.builder.proofs.Runs.{next-fits, next-less}
+use Rattle.layouts.proofs.Loops.{next-fits, next-less}
 use Rattle.builder.proofs.Refined.{Laid, laid-none, laid-more, laid-whole, laid-read, meanAt, pair-laid}
 use Rattle.builder.proofs.refining.pair_inside.Statement.{statement}
 use Rattle.builder.proofs.refining.pair_inside.Tie as tie

@@ -6,8 +6,9 @@ use native.Mathlib.Omega.{arith}
 use lib.ListN.{getD}
 use mir.Facts.{fits-lit}
 use denote.Ref.{now}
+use Rattle.layouts.proofs.Loops.{walked-whole, next-fits, next-less}
 use Rattle.builder.specs.Refining.{pairOf, pairs, quarter}
-use Rattle.builder.proofs.Runs.{walked-whole, Passed, passed-none, passed-more, next-fits, next-less}
+use Rattle.builder.proofs.Runs.{Passed, passed-none, passed-more}
 use Rattle.builder.proofs.Refined.{planes-kept, table-row, table-walked}
 use Rattle.builder.proofs.refining.quarters.Statement.{statement}
 use Rattle.builder.proofs.refining.quarters.Tie as tie

@@ -5,7 +5,8 @@ use native.Mathlib.Omega.{arith}
 use lib.Seq.{length-take-le}
 use borrow.Table.Elements.{same-len}
 use denote.Ref.{now}
-use Rattle.builder.specs.Canvas.{fetch, put, copyRun}
+use Rattle.layouts.specs.Storing.{put}
+use Rattle.builder.specs.Canvas.{fetch, copyRun}
 use borrow.Author.Needs.{needs}
 use Rattle.builder.proofs.separate.close_row.Statement.{statement}
 use Rattle.builder.proofs.separate.close_row.Tie as tie

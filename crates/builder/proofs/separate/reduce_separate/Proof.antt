@@ -2,8 +2,8 @@
 use mathlib.Core.Path.{ap, _∙_}
 use Prim.Native.Nat.{_*_}
 use native.Mathlib.Omega.{arith}
-use Rattle.builder.proofs.Spreads.{spread-kept}
 use Rattle.builder.specs.Halving.{horizontalRows, closeUp, fromSource}
+use Rattle.builder.proofs.Spreads.{spread-kept}
 use Rattle.builder.proofs.separate.reduce_separate.Statement.{statement}
 use Rattle.builder.proofs.separate.reduce_separate.Tie as tie
 

@@ -6,7 +6,7 @@ use native.Mathlib.Omega.{arith}
 use borrow.Table.Elements.{same-len}
 use denote.Ref.{now}
 use Rattle.filters.specs.Halve.{reducedApart}
-use Rattle.builder.specs.Canvas.{put}
+use Rattle.layouts.specs.Storing.{put}
 use Rattle.builder.proofs.Spreads.{half-line, halved-run}
 use borrow.Author.Needs.{needs}
 use Rattle.builder.proofs.separate.spread_halve_row.Statement.{statement}

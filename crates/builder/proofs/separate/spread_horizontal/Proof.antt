@@ -4,8 +4,9 @@ use Prim.Native.Nat.{_+_, _*_, _-_, _≤_}
 use native.Mathlib.Omega.{arith}
 use lib.ListN.{length}
 use denote.Ref.{now}
+use Rattle.layouts.proofs.Loops.{walked-whole, next-fits, next-less}
 use Rattle.builder.specs.Halving.{halveRun, horizontalRows}
-use Rattle.builder.proofs.Runs.{walked-whole, next-fits, next-less, Passed, passed-none, passed-more}
+use Rattle.builder.proofs.Runs.{Passed, passed-none, passed-more}
 use Rattle.builder.proofs.Spreads.{spread-row}
 use Rattle.builder.proofs.separate.spread_horizontal.Statement.{statement}
 use Rattle.builder.proofs.separate.spread_horizontal.Tie as tie

@@ -1,9 +1,10 @@
 -- `spread_vertical` meets its contract. The loop has stored the rows passed. Assumes nothing.
 use Prim.Native.Nat.{_+_, _*_, _-_}
 use native.Mathlib.Omega.{arith}
-use Rattle.builder.specs.Canvas.{put}
+use Rattle.layouts.specs.Storing.{put}
+use Rattle.layouts.proofs.Loops.{walked-whole, next-less}
 use Rattle.builder.specs.Halving.{wholeOf, verticalLine, verticalRows}
-use Rattle.builder.proofs.Runs.{walked-whole, next-less, Passed, passed-none, passed-more}
+use Rattle.builder.proofs.Runs.{Passed, passed-none, passed-more}
 use Rattle.builder.proofs.Spreads.{spread-kept}
 use Rattle.builder.proofs.separate.spread_vertical.Statement.{statement}
 use Rattle.builder.proofs.separate.spread_vertical.Tie as tie

@@ -3,9 +3,9 @@ use mathlib.Core.Path.{sym, _∙_}
 use native.Mathlib.Omega.{arith}
 use lib.ListN.{length}
 use denote.Ref.{now}
-use Rattle.builder.specs.Halving.{wholeOf}
+use Rattle.layouts.proofs.Loops.{row-in}
 use Prim.Native.Nat.{_*_}
-use Rattle.builder.proofs.Runs.{row-in}
+use Rattle.builder.specs.Halving.{wholeOf}
 use Rattle.builder.proofs.Lines.{edge-reach, inner-reach, line-edge, line-inner}
 use borrow.Author.Needs.{needs}
 use Rattle.builder.proofs.vertical.vertical_line.Statement.{statement}

@@ -4,7 +4,7 @@ use mathlib.Core.List.{List}
 use lib.IntN.{ℤ}
 use denote.Ref.{now}
 use borrow.Author.Needs.{needs}
-use Rattle.settings.specs.Longhand.{readAs}
+use Rattle.longhands.specs.Longhand.{readAs}
 use Rattle.exports.specs.Answers.{tells}
 use Rattle.exports.proofs.Spelled.{left-short, left-record, left-unknown, left-refused}
 use Rattle.exports.proofs.longhand.sill_longhand_read.Statement.{statement}

@@ -5,7 +5,7 @@ use denote.Ref.{now}
 use borrow.Author.Needs.{needs}
 use Rattle.settings.specs.declared.super_opts.SuperOpts.{SuperOpts}
 use Rattle.settings.specs.Answers.{answer}
-use Rattle.settings.specs.Longhand.{writeAnswer}
+use Rattle.longhands.specs.Longhand.{writeAnswer}
 use Rattle.exports.proofs.longhand.sill_longhand_write.Statement.{statement}
 use Rattle.exports.proofs.longhand.sill_longhand_write.Tie as tie
 

@@ -7,7 +7,8 @@ use lib.Seq.{take-all, length-take-le}
 use borrow.Table.Elements.{same-len}
 use denote.Ref.{now}
 use borrow.Author.Needs.{needs}
-use Rattle.builder.specs.Canvas.{fetch, put, copyRun}
+use Rattle.layouts.specs.Storing.{put}
+use Rattle.builder.specs.Canvas.{fetch, copyRun}
 use Rattle.builder.proofs.Runs.{fetch-length}
 use Rattle.builder.proofs.refining.Interp.copy_first_row.Statement.{statement}
 use Rattle.builder.proofs.refining.Interp.copy_first_row.Tie as tie

@@ -4,9 +4,10 @@ use Prim.Native.Nat.{_+_, _*_, _-_}
 use native.Mathlib.Omega.{arith}
 use lib.ListN.{length}
 use Rattle.filters.specs.Refine.{halfHorizontal}
-use Rattle.builder.specs.Canvas.{fetch, put}
+use Rattle.layouts.specs.Storing.{put}
+use Rattle.layouts.proofs.Loops.{row-in, Walked, walked-none, walked-more, walked-whole, next-fits, next-less}
+use Rattle.builder.specs.Canvas.{fetch}
 use Rattle.builder.specs.Refining.{horizontalPlane}
-use Rattle.builder.proofs.Runs.{row-in, Walked, walked-none, walked-more, walked-whole, next-fits, next-less}
 use Rattle.builder.proofs.refining.Interp.horizontal.Statement.{statement}
 use Rattle.builder.proofs.refining.Interp.horizontal.Tie as tie
 

@@ -7,7 +7,7 @@ use borrow.Table.Elements.{same-len}
 use denote.Ref.{now}
 use borrow.Author.Needs.{needs}
 use Rattle.filters.specs.Refine.{halfHorizontal}
-use Rattle.builder.specs.Canvas.{put}
+use Rattle.layouts.specs.Storing.{put}
 use Rattle.builder.proofs.refining.Interp.horizontal_row.Statement.{statement}
 use Rattle.builder.proofs.refining.Interp.horizontal_row.Tie as tie
 

@@ -4,9 +4,10 @@ use mathlib.Core.List.{_++_}
 use Prim.Native.Nat.{ℕ, _+_, _*_, _-_}
 use native.Mathlib.Omega.{arith}
 use denote.Ref.{now}
-use Rattle.builder.specs.Canvas.{steps}
+use Rattle.layouts.specs.Storing.{steps}
+use Rattle.layouts.proofs.Loops.{row-in, walked-whole, next-fits, next-less}
 use Rattle.builder.specs.Refining.{pairRun, pairPlane}
-use Rattle.builder.proofs.Runs.{row-in, walked-whole, Passed, passed-none, passed-more, next-fits, next-less}
+use Rattle.builder.proofs.Runs.{Passed, passed-none, passed-more}
 use Rattle.builder.proofs.refining.Interp.pair.Statement.{statement}
 use Rattle.builder.proofs.refining.Interp.pair.Tie as tie
 

@@ -3,9 +3,9 @@ use mathlib.Core.Path.{_≡_, refl, _∙_}
 use Prim.Native.Nat.{_+_, _*_, _-_}
 use native.Mathlib.Omega.{arith}
 use lib.ListN.{length}
-use Rattle.builder.specs.Canvas.{put}
+use Rattle.layouts.specs.Storing.{put}
+use Rattle.layouts.proofs.Loops.{Walked, walked-none, walked-more, walked-whole, next-less}
 use Rattle.builder.specs.Refining.{verticalRun, verticalPlane}
-use Rattle.builder.proofs.Runs.{Walked, walked-none, walked-more, walked-whole, next-less}
 use Rattle.builder.proofs.refining.Interp.vertical.Statement.{statement}
 use Rattle.builder.proofs.refining.Interp.vertical.Tie as tie
 

@@ -5,7 +5,7 @@ use native.Mathlib.Omega.{arith}
 use lib.ListN.{length}
 use denote.Ref.{now}
 use borrow.Author.Needs.{needs}
-use Rattle.builder.proofs.Runs.{row-fits}
+use Rattle.layouts.proofs.Loops.{row-fits}
 use Rattle.builder.proofs.Refined.{vertical-rows}
 use Rattle.builder.proofs.refining.Interp.vertical_line.Statement.{statement}
 use Rattle.builder.proofs.refining.Interp.vertical_line.Tie as tie

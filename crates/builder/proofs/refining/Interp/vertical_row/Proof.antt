@@ -6,8 +6,8 @@ use lib.Seq.{length-take-le}
 use borrow.Table.Elements.{same-len}
 use denote.Ref.{now}
 use borrow.Author.Needs.{needs}
-use Rattle.builder.specs.Canvas.{put}
-use Rattle.builder.proofs.Runs.{row-in}
+use Rattle.layouts.specs.Storing.{put}
+use Rattle.layouts.proofs.Loops.{row-in}
 use Rattle.builder.proofs.refining.Interp.vertical_row.Statement.{statement}
 use Rattle.builder.proofs.refining.Interp.vertical_row.Tie as tie
 

@@ -1,8 +1,8 @@
 -- `with_read` meets its contract. Assumes nothing.
 use mathlib.Core.Path.{sym, ap, _∙_}
 use native.Mathlib.Omega.{arith}
-use Rattle.settings.specs.declared.longhand.Read.{Read}
-use Rattle.settings.specs.Longhand.{readAs}
+use Rattle.longhands.specs.declared.longhand.Read.{Read}
+use Rattle.longhands.specs.Longhand.{readAs}
 use Rattle.lines.specs.Longhand.{readText}
 use Rattle.lines.proofs.Lines.{_after_, said, wider}
 use Rattle.lines.proofs.Answered.{read-record, read-unknown, read-refused}

@@ -1,6 +1,6 @@
 -- `with_record` meets its contract. Assumes nothing.
-use Rattle.settings.specs.Longhand.{longhandAnswer}
-use Rattle.lines.specs.Longhand.{isRecord, readText}
+use Rattle.settings.proofs.Tests.{and-left, and-right}
+use Rattle.longhands.specs.Longhand.{longhandAnswer}
 use mathlib.Core.Path.{_≡_, sym, ap, _∙_}
 use mathlib.Core.Bool.{true, _&&_}
 use mathlib.Core.List.{List}
@@ -10,7 +10,7 @@ use lib.Dec.{leb, eqb}
 use lib.ListN.{length}
 use borrow.Author.Tests.{leb-true}
 use lib.Seq.{length-take-le}
-use Rattle.settings.proofs.Tests.{and-left, and-right}
+use Rattle.lines.specs.Longhand.{isRecord, readText}
 use Rattle.lines.specs.Limits.{mostInput}
 use Rattle.lines.specs.Text.{allDigits}
 use Rattle.lines.proofs.Lines.{said}

@@ -4,7 +4,7 @@ use native.Mathlib.Omega.{arith}
 use lib.ListN.{replicate}
 use Rattle.settings.specs.declared.refusal.Tested.{Tested}
 use Rattle.settings.specs.Answers.{answer, tested}
-use Rattle.settings.specs.Longhand.{writeAnswer}
+use Rattle.longhands.specs.Longhand.{writeAnswer}
 use Rattle.lines.specs.Longhand.{writtenText}
 use Rattle.lines.proofs.Lines.{said, wider}
 use Rattle.lines.proofs.Answered.{written-fine, written-refused}

@@ -3,8 +3,8 @@ use lib.Dec.{lit<}
 use borrow.Author.Needs.{needs}
 use Rattle.settings.specs.Numbers.{toNat}
 use Rattle.settings.specs.Sizes.{levelsOf}
-use Rattle.settings.proofs.Fields.{FieldsFit, levels-fit}
 use Rattle.settings.specs.Check.{accepted}
+use Rattle.settings.proofs.Fields.{FieldsFit, levels-fit}
 use Rattle.settings.proofs.Integers.{same, is-by-bits}
 use Rattle.settings.proofs.super_opts.SuperOpts.accepted.Statement.{statement}
 use Rattle.settings.proofs.super_opts.SuperOpts.accepted.Tie as tie

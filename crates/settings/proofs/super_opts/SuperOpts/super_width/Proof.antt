@@ -9,9 +9,9 @@ use mir.Val.{ofZ, toZ}
 use mir.Facts.{toZ-pos}
 use borrow.Author.Needs.{needs}
 use Rattle.settings.specs.Check.{accepted, recordNo, superWidth, lumaW}
-use Rattle.settings.proofs.Accepted.{sizes, pos-side, fine, sound, no-record, is-record, within}
 use Rattle.settings.specs.declared.refusal.Refusal.the-variants.{NoRecord}
 use Rattle.settings.specs.Sizes.{reduce, reduced}
+use Rattle.settings.proofs.Accepted.{sizes, pos-side, fine, sound, no-record, is-record, within}
 use Rattle.settings.proofs.Integers.{same, counts}
 use Rattle.settings.proofs.Known.{refused}
 use Rattle.settings.proofs.super_opts.SuperOpts.super_width.Statement.{statement}

@@ -1,0 +1,142 @@
+-- Demand 3 about the product's own calls. In the user's words:
+--     "Reading any word names one build exactly if some accepted record packs to it and all that do leave equal bytes, given the same plane, source pitch, layout and starting frame; it then tells the width, height, pel, levels, gpu, full, rc and lean they all have, and their down and up where document 01 says these matter. It answers "not a code" exactly if none packs to it. It answers that the halving or the upscale filter isn't told exactly if two such records, alike but for that one setting, leave different bytes for some plane, source pitch and layout, the same for both, in a frame of zeros; if both hold, halving is named."
+-- `Exact` of specs/Demands.antt says it sentence by sentence, and `demand-3` below that it holds of every answer that meets the contract of `read_word`.
+-- First what the four calls promise, each from `Post`, what the checker itself reads of the call's `ensures`; then from the definitions to these promises; last `demand-3`. Assumes nothing.
+use mathlib.Core.Path.{_≡_, sym, ap, _∙_, subst}
+use mathlib.Core.List.{List}
+use mathlib.Core.Bool.{false}
+use mathlib.Core.Logic.{_↔_}
+use Prim.Native.Nat.{ℕ}
+use native.Mathlib.Omega.{arith}
+use lib.Dec.{ltb}
+use lib.ListN.{length, replicate, length-replicate}
+use borrow.Author.Tests.{le-ltb}
+use contract.Lifetimes.{Lfts}
+use denote.Ref.{now}
+use Rattle.settings.specs.declared.super_opts.SuperOpts.{SuperOpts}
+use Rattle.settings.specs.Numbers.{refuse, _then_}
+use Rattle.settings.specs.Answers.{Answer, answer, checked, checkAnswer, packed, packAnswer, told, readAnswer}
+use Rattle.settings.specs.Reading.{Packs}
+use Rattle.settings.proofs.Outcome.{Promises}
+use Rattle.settings.proofs.Refusals.{then-first, then-rest}
+use Rattle.settings.proofs.Known.{given}
+use Rattle.settings.proofs.Told.{packs-exact}
+use Rattle.settings.proofs.super_opts.SuperOpts.from_opt.Reads as from-opt-reads
+use Rattle.settings.proofs.super_opts.SuperOpts.pack_data.Reads as pack-data-reads
+use Rattle.settings.proofs.word.read_word.Reads as read-word-reads
+use Rattle.layouts.specs.declared.layout.Layout.{Layout}
+use Rattle.layouts.specs.Layout.{widthAt, writtenEnd, spillNeed, scratchNeed}
+use Rattle.layouts.specs.Numbers.{badPitch, layoutNo, sourceNeed, lentNo, buildNo}
+use Rattle.planes.specs.Answers.{planeNo}
+use Rattle.planes.proofs.build.build_plane.Reads as build-plane-reads
+use Rattle.demands.specs.Demands.{Given, layoutOf, SameBuild, Differ, withDown, withUp, HalvingDiffers, UpscaleDiffers, Exact, PacksTo, BuildPlane, Finished, leaves, Leaves}
+use Rattle.demands.proofs.Demanded.{then-none, refuse-none, reads-met}
+
+-- ---- what the calls promise
+pub from-opt-promise : (κs : Lfts 0) → Promises (from-opt-reads.Post κs) (λ x c e. checked c ≡ checkAnswer (x .0) (x .1 .0) (x .1 .1 .0))
+from-opt-promise κs x c e p = p
+
+pub pack-data-promise : (κs : Lfts 0) → Promises (pack-data-reads.Post κs) (λ x c e. packed c ≡ packAnswer (x .0))
+pack-data-promise κs x c e p = p
+
+pub read-word-promise : (κs : Lfts 0) → Promises (read-word-reads.Post κs) (λ x t e. told t ≡ readAnswer (x .0))
+read-word-promise κs x t e p = p
+
+-- of layout, source, source pitch, frame, spill and scratch
+pub build-plane-promise : (κs : Lfts 4) → Promises (build-plane-reads.Post κs) (λ x t e. BuildPlane (x .1 .1 .1 .0) (now (x .1 .1 .1 .1 .0)) (x .1 .1 .1 .1 .1 .0) (now (x .0)) (now (x .1 .0)) (now (x .1 .1 .0)) t (now (e .0)) (now (e .1 .0)) (now (e .1 .1 .0)))
+build-plane-promise κs x t e p = p
+
+-- ---- from the definitions to the calls
+packs-to : (v : ℕ) (r : SuperOpts) → Packs v r ↔ PacksTo v r
+packs-to v r = (λ p. let t = packs-exact v r .0 p in (t .0, sym (t .1)), λ t. packs-exact v r .1 (t .0, sym (t .1)))
+
+-- as much spill and scratch as is needed is enough
+lent-needs : (q : Layout) (n sp len spill scratch : ℕ) → lentNo q n sp len spill scratch ≡ 0 → lentNo q n sp len (spillNeed q) (scratchNeed q) ≡ 0
+unfolding lentNo
+lent-needs q n sp len spill scratch e =
+    let before = refuse (ltb n (sourceNeed q sp)) 10 then refuse (ltb len (writtenEnd q)) 11 in
+    let beyond = refuse (ltb spill (spillNeed q)) 12 in
+    let room = refuse (ltb scratch (scratchNeed q)) 13 in
+    let enough : (k : ℕ) → ltb k k ≡ false = λ k. le-ltb k k (omega arith) in
+    then-none _ _ (then-none _ _ (then-first before beyond (then-first (before then beyond) room e)) (refuse-none _ 12 (enough (spillNeed q)))) (refuse-none _ 13 (enough (scratchNeed q)))
+
+with-needs : (q : Layout) (n sp len spill scratch : ℕ) → buildNo q n sp len spill scratch ≡ 0 → buildNo q n sp len (spillNeed q) (scratchNeed q) ≡ 0
+unfolding buildNo
+with-needs q n sp len spill scratch e =
+    let before = layoutNo q then refuse (badPitch sp (widthAt q 0)) 9 in
+    let lent = lentNo q n sp len spill scratch in
+    then-none before (lentNo q n sp len (spillNeed q) (scratchNeed q)) (then-first before lent e) (lent-needs q n sp len spill scratch (then-rest before lent e))
+
+module _ (r : SuperOpts) (g : Given) (m : List ℕ) where
+  abbrev q : Layout
+  q = layoutOf r g
+
+  leaves-by : Finished r g m → Leaves r g m
+  leaves-by f =
+      let n = planeNo q (g .src) (g .sp) (g .frame) (f .spill) (f .scratch) in
+      let none : n ≡ 0 = sym (ap (λ (a : Answer (List ℕ)). a .no) (f .call .0)) in (
+        with-needs q (length (g .src)) (g .sp) (length (g .frame)) (length (f .spill)) (length (f .scratch)) none,
+        ap (λ (a : Answer (List ℕ)). a .value) (f .call .0 ∙ sym (given n (leaves r g) (g .frame) none)),
+      )
+
+  finished-by : Leaves r g m → Finished r g m
+  finished-by l =
+      let spill = replicate {A = ℕ} (spillNeed q) 0 in
+      let scratch = replicate {A = ℕ} (scratchNeed q) 0 in
+      let n = planeNo q (g .src) (g .sp) (g .frame) spill scratch in
+      let none : n ≡ 0 = rw (length-replicate {A = ℕ} (spillNeed q) 0, length-replicate {A = ℕ} (scratchNeed q) 0) (l .0) in
+      record {
+        spill = spill;
+        scratch = scratch;
+        spill' = replicate (length spill) 0;
+        scratch' = replicate (length scratch) 0;
+        call = (ap (answer 0) (l .1) ∙ given n (leaves r g) (g .frame) none, given n (replicate (length spill) 0) spill none, given n (replicate (length scratch) 0) scratch none);
+      }
+
+-- from one account of the records behind a word, and of what builds leave, to another
+same-by : {L M : SuperOpts → Given → List ℕ → Type 0} → ((r : SuperOpts) (g : Given) (m : List ℕ) → L r g m → M r g m) → ((r : SuperOpts) (g : Given) (m : List ℕ) → M r g m → L r g m) → (r s : SuperOpts) → SameBuild M r s → SameBuild L r s
+same-by to from r s h g m x y p = from s g m (h g m x y (to r g m p))
+
+module _ {B C : SuperOpts → Type 0} {L M : SuperOpts → Given → List ℕ → Type 0} (b : (r : SuperOpts) → B r → C r) (l : (r : SuperOpts) (g : Given) (m : List ℕ) → L r g m → M r g m) where
+  differ-by : (r s : SuperOpts) → Differ L r s → Differ M r s
+  differ-by r s d =
+      record {
+        at = d .at;
+        is-bytes = d .is-bytes;
+        zeros = d .zeros;
+        one = d .one;
+        other = d .other;
+        first = l r (d .at) (d .one) (d .first);
+        second = l s (d .at) (d .other) (d .second);
+        unequal = d .unequal;
+      }
+
+  halving-by : HalvingDiffers B L → HalvingDiffers C M
+  halving-by t = let s = withDown (t .0) (t .1) in (t .0, t .1, b (t .0) (t .2), b s (t .3), differ-by (t .0) s (t .4))
+
+  upscale-by : UpscaleDiffers B L → UpscaleDiffers C M
+  upscale-by t = let s = withUp (t .0) (t .1) in (t .0, t .1, b (t .0) (t .2), b s (t .3), differ-by (t .0) s (t .4))
+
+by-calls : (v : ℕ) → Exact (PacksTo v) Finished (readAnswer v)
+by-calls v =
+    let d = reads-met v in
+    let to : (r : SuperOpts) → Packs v r → PacksTo v r = λ r. packs-to v r .0 in
+    let from : (r : SuperOpts) → PacksTo v r → Packs v r = λ r. packs-to v r .1 in
+    record {
+      one = (
+        λ e. let t = d .one .0 e in ((t .0 .0, to (t .0 .0) (t .0 .1)), λ r s p q. same-by leaves-by finished-by r s (t .1 r s (from r p) (from s q))),
+        λ t. d .one .1 ((t .0 .0, from (t .0 .0) (t .0 .1)), λ r s p q. same-by finished-by leaves-by r s (t .1 r s (to r p) (to s q))),
+      );
+      tells = λ e r p. d .tells e r (from r p);
+      none = (λ e r p. d .none .0 e r (from r p), λ h. d .none .1 (λ r p. h r (to r p)));
+      halving = (λ e. halving-by to finished-by (d .halving .0 e), λ t. d .halving .1 (halving-by from leaves-by t));
+      upscale = (
+        λ e. let t = d .upscale .0 e in (upscale-by to finished-by (t .0), λ h. t .1 (halving-by from leaves-by h)),
+        λ t. d .upscale .1 (upscale-by from leaves-by (t .0), λ h. t .1 (halving-by to finished-by h)),
+      );
+      only = d .only;
+    }
+
+-- ---- demand 3: x .0 is the word that is read, t the answer
+pub demand-3 : (κs : Lfts 0) → Promises (read-word-reads.Post κs) (λ x t e. Exact (PacksTo (x .0)) Finished (told t))
+demand-3 κs x t e p = subst (Exact (PacksTo (x .0)) Finished) (sym (read-word-promise κs x t e p)) (by-calls (x .0))

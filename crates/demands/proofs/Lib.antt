@@ -1,0 +1,19 @@
+-- What is proved of the definitions, from the general to the special:
+--     Enough     the spill need covers every store of a build
+--     Before     nothing that is computed depends on what lies before the canvas or a row
+--     ByHand     document 01's examples, computed
+--     Unique     no second outcome meets a public call's contract
+--     Same       settings that don't matter leave no trace
+--     Kept       one byte of the canvas through the stages of a build
+--     Witness    a plane by which two settings of a filter that isn't told are known apart
+--     Demanded   demand 3 over the definitions, byte for byte
+--     Demand     demand 3 about the calls
+pub mod Enough
+pub mod Before
+pub mod ByHand
+pub mod Unique
+pub mod Same
+pub mod Kept
+pub mod Witness
+pub mod Demanded
+pub mod Demand

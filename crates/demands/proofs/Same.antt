@@ -1,0 +1,202 @@
+-- Settings that don't matter leave no trace: records alike but for them build alike, so that a word that reading takes for one build names one. Last, that the filters which reading counts are those that a build takes. Assumes nothing.
+use mathlib.Core.Path.{_≡_, refl, sym, ap, _∙_}
+use mathlib.Core.Logic.{_⊎_, inl, inr, ⊎-elim}
+use mathlib.Core.Bool.{Bool, true, false, cond, not, _&&_, _||_}
+use mathlib.Core.List.{List}
+use Prim.Native.Nat.{ℕ, zero, suc, _+_, _-_, _≤_}
+use native.Mathlib.Omega.{arith}
+use lib.Dec.{eqb, leb}
+use lib.IntN.{ℤ, pos, negsuc}
+use lib.ListN.{length, take}
+use borrow.Author.Tests.{lt-leb, leb-false, ne-eqb, not-false}
+use Rattle.settings.specs.declared.super_opts.SuperOpts.{SuperOpts}
+use Rattle.settings.specs.Numbers.{isNat, isI32, total}
+use Rattle.settings.specs.Check.{accepted, pelOf, levelCount}
+use Rattle.settings.specs.Reading.{candidate, readNo, downMatters, upMatters, Packs, halvingOf, upscaleOf}
+use Rattle.settings.proofs.Accepted.{fine, is-nat-pos}
+use Rattle.settings.proofs.Told.{filtered, filtered-packs, four-or-not, canon-accepted, canon-four, packs-canon, code-packs, read-case, at-0, halving as halvingOpen, upscale as upscaleOpen, or-right}
+use Rattle.filters.specs.declared.halving.ReduceFilter.{ReduceFilter}
+use Rattle.filters.specs.declared.halving.ReduceFilter.the-variants.{Average, Bilinear, Quadratic, Cubic}
+use Rattle.filters.specs.declared.halving.Chosen.{Chosen}
+use Rattle.filters.specs.declared.halving.Chosen.the-variants.{Filter, NoFilter}
+use Rattle.filters.specs.declared.half_pel.HalfPel.the-variants.{CatmullRom, Wiener}
+use Rattle.filters.specs.declared.half_pel.Upscale.{Upscale}
+use Rattle.filters.specs.declared.half_pel.Upscale.the-variants.{Means, Kernel}
+use Rattle.filters.specs.Halve.{chosen}
+use Rattle.filters.specs.Refine.{upscale}
+use Rattle.filters.proofs.Tests.{or-yes}
+use Rattle.layouts.specs.declared.layout.Layout.{Layout}
+use Rattle.layouts.specs.Storing.{steps}
+use Rattle.layouts.specs.Layout.{levelsOf, storedAt, offsetAt, spillNeed, scratchNeed}
+use Rattle.layouts.specs.Margins.{fusedAt}
+use Rattle.layouts.specs.Numbers.{layoutNo, lentNo, buildNo}
+use Rattle.builder.specs.Refining.{refine}
+use Rattle.planes.specs.Build.{planesOf, copied, halveLevel, halved, refines, refined, built, builtFrame}
+use Rattle.demands.specs.Demands.{Given, layoutOf, SameBuild, withDown, withUp, Builds, leaves, Leaves}
+
+steps-none : (step : ℕ → List ℕ → List ℕ) (n : ℕ) (c : List ℕ) → n ≡ 0 → steps step n c ≡ c
+unfolding steps
+steps-none step n c e = rw e
+
+halved-none : (q : Layout) (src : List ℕ) (sp len : ℕ) (ch : Chosen) (c : List ℕ) → levelsOf q ≤ 1 → halved q src sp len ch c ≡ c
+unfolding halved
+halved-none q src sp len (Filter f) c le = steps-none (λ i. halveLevel q src sp len f (i + 1)) (levelsOf q - 1) c (omega arith)
+halved-none q src sp len NoFilter c le = refl
+
+-- down, with one level at most
+pub built-down : (r : SuperOpts) (d : ℤ) (g : Given) (len : ℕ) (c : List ℕ) → levelCount r ≤ 1 → built (layoutOf (withDown r d) g) (g .src) (g .sp) len c ≡ built (layoutOf r g) (g .src) (g .sp) len c
+unfolding built copied refined
+built-down r d g len c le =
+    let first = cond (r .full) (copied (layoutOf r g) (g .src) (g .sp) c) c in
+    rw (halved-none (layoutOf (withDown r d) g) (g .src) (g .sp) len (chosen d) first le, halved-none (layoutOf r g) (g .src) (g .sp) len (chosen (r .«scale_down»)) first le)
+
+pick-go : (n : ℕ) (t : Bool) (c a b l : List ℕ) → (t && leb 1 n) ≡ false → cond (eqb n 0) c (cond t a l) ≡ cond (eqb n 0) c (cond t b l)
+pick-go zero t c a b l e = refl
+pick-go (suc n) true c a b l e = absurd (omega (arith, leb-false 1 (suc n) e))
+pick-go (suc n) false c a b l e = refl
+
+-- ---- where levels lie doesn't depend on the filters
+module _ (r : SuperOpts) (d u : ℤ) (g : Given) where
+  abbrev other : Layout
+  other = layoutOf (filtered r d u) g
+
+  stored-same : (l : ℕ) → storedAt other l ≡ storedAt (layoutOf r g) l
+  stored-same zero = refl
+  stored-same (suc l) = refl
+
+  pub offset-same : (l : ℕ) → offsetAt other l ≡ offsetAt (layoutOf r g) l
+  unfolding offsetAt total
+  offset-same zero = refl
+  offset-same (suc l) = rw (offset-same l, stored-same l)
+
+steps-same : (f g : ℕ → List ℕ → List ℕ) (n : ℕ) (c : List ℕ) → ((i : ℕ) (d : List ℕ) → f i d ≡ g i d) → steps f n c ≡ steps g n c
+unfolding steps
+steps-same f g zero c same = refl
+steps-same f g (suc n) c same = same n (steps f n c) ∙ ap (g n) (steps-same f g n c same)
+
+level-up : (r : SuperOpts) (u : ℤ) (g : Given) (len : ℕ) (f : ReduceFilter) (l : ℕ) (c : List ℕ) → halveLevel (layoutOf (withUp r u) g) (g .src) (g .sp) len f l c ≡ halveLevel (layoutOf r g) (g .src) (g .sp) len f l c
+unfolding halveLevel fusedAt
+level-up r u g len f l c = rw (offset-same r (r .«scale_down») u g l, offset-same r (r .«scale_down») u g (l - 1))
+
+halved-up : (r : SuperOpts) (u : ℤ) (g : Given) (len : ℕ) (ch : Chosen) (c : List ℕ) → halved (layoutOf (withUp r u) g) (g .src) (g .sp) len ch c ≡ halved (layoutOf r g) (g .src) (g .sp) len ch c
+unfolding halved
+halved-up r u g len (Filter f) c =
+    steps-same (λ i. halveLevel (layoutOf (withUp r u) g) (g .src) (g .sp) len f (i + 1)) (λ i. halveLevel (layoutOf r g) (g .src) (g .sp) len f (i + 1)) (levelCount r - 1) c
+    (λ i e. level-up r u g len f (i + 1) e)
+halved-up r u g len NoFilter c = refl
+
+-- up, where it doesn't matter
+pub built-up : (r : SuperOpts) (u : ℤ) (g : Given) (len : ℕ) (c : List ℕ) → upMatters r ≡ false → built (layoutOf (withUp r u) g) (g .src) (g .sp) len c ≡ built (layoutOf r g) (g .src) (g .sp) len c
+unfolding built copied refined
+built-up r u g len c e =
+    let first = cond (r .full) (copied (layoutOf r g) (g .src) (g .sp) c) c in
+    let later = halved (layoutOf r g) (g .src) (g .sp) len (chosen (r .«scale_down»)) first in
+    let made : ℤ → List ℕ = λ x. refine (planesOf (layoutOf r g)) (pelOf r) (upscale x) later in
+    rw (halved-up r u g len (chosen (r .«scale_down»)) first)
+    (pick-go (levelCount r) (refines (layoutOf r g)) c (made u) (made (r .«scale_up»)) later e)
+
+-- ---- what a word leaves open of a record that packs to it
+pub told-down : (v : ℕ) (r : SuperOpts) → Packs v r → halvingOpen (candidate v) ≡ halvingOpen r
+told-down v r p = ap (λ (q : SuperOpts). downMatters q && not (isNat (candidate v .«scale_down») 4)) (packs-canon v r p) ∙ ap (λ (t : Bool). downMatters r && not t) (canon-four v r p)
+
+pub told-up : (v : ℕ) (r : SuperOpts) → Packs v r → upscaleOpen (candidate v) ≡ upscaleOpen r
+told-up v r p = ap upscaleOpen (packs-canon v r p)
+
+and-off : (a b : Bool) → (a && b) ≡ false → (a ≡ false) ⊎ (b ≡ false)
+and-off true b e = inr e
+and-off false b e = inl refl
+
+-- ---- where the word doesn't leave a filter open, records alike but for it leave the same
+module _ (v : ℕ) (r : SuperOpts) (p : Packs v r) (g : Given) where
+  pub down-same : (d : ℤ) → isNat d 4 ≡ isNat (r .«scale_down») 4 → halvingOpen (candidate v) ≡ false → leaves (withDown r d) g ≡ leaves r g
+  unfolding builtFrame
+  down-same d both e =
+      ⊎-elim
+      (λ (m : downMatters r ≡ false). ap (take (length (g .frame))) (built-down r d g (length (g .frame)) _ (omega (arith, leb-false 2 (levelCount r) m))))
+      (λ (m : not (isNat (r .«scale_down») 4) ≡ false).
+      let four = not-false (isNat (r .«scale_down») 4) m in
+      ap (λ (z : ℤ). leaves (withDown r z) g) (is-nat-pos d 4 (both ∙ four) ∙ sym (is-nat-pos (r .«scale_down») 4 four)))
+      (and-off (downMatters r) (not (isNat (r .«scale_down») 4)) (sym (told-down v r p) ∙ e))
+
+  pub up-same : (u : ℤ) → (isNat (r .gpu) 0 || isNat u 0) ≡ true → upscaleOpen (candidate v) ≡ false → leaves (withUp r u) g ≡ leaves r g
+  unfolding builtFrame
+  up-same u ok e =
+      ⊎-elim
+      (λ (m : upMatters r ≡ false). ap (take (length (g .frame))) (built-up r u g (length (g .frame)) _ m))
+      (λ (m : isNat (r .gpu) 0 ≡ false).
+      ap (λ (z : ℤ). leaves (withUp r z) g)
+      (is-nat-pos u 0 (or-right (isNat (r .gpu) 0) (isNat u 0) m ok) ∙ sym (is-nat-pos (r .«scale_up») 0 (or-right (isNat (r .gpu) 0) (isNat (r .«scale_up») 0) m (fine r (p .good) .up)))))
+      (and-off (upMatters r) (isNat (r .gpu) 0) (sym (told-up v r p) ∙ e))
+
+-- ---- the record that a word spells leaves what each record behind it leaves, where no filter is open
+abbrev fourOr : SuperOpts → ℤ
+fourOr r = cond (isNat (r .«scale_down») 4) (pos 4) (pos 0)
+
+leaves-canon : (v : ℕ) → readNo v ≡ 0 → (r : SuperOpts) → Packs v r → (g : Given) → leaves (candidate v) g ≡ leaves r g
+leaves-canon v e r p g =
+    let known = at-0 (read-case v) e in
+    let same = four-or-not (isNat (r .«scale_down») 4) in
+    let ok = fine r (p .good) .up in
+    let q = filtered-packs v r (fourOr r) (r .«scale_up») p (four-fits (isNat (r .«scale_down») 4)) (p .up-fits) same ok in
+    ap (λ (x : SuperOpts). leaves x g) (packs-canon v r p)
+    ∙ up-same v (withDown r (fourOr r)) q g (pos 0) (or-yes (isNat (r .gpu) 0)) (known .2)
+    ∙ down-same v r p g (fourOr r) same (known .1)
+  where
+    four-fits : (t : Bool) → isI32 (cond t (pos 4) (pos 0)) ≡ true
+    four-fits true = refl
+    four-fits false = refl
+
+-- ---- what packs to one word builds, or none does: an accepted record's number doesn't depend on its filters
+number-same : (r : SuperOpts) (d u : ℤ) (g : Given) → accepted r ≡ true → accepted (filtered r d u) ≡ true → (n len a b : ℕ) → buildNo (layoutOf (filtered r d u) g) n (g .sp) len a b ≡ buildNo (layoutOf r g) n (g .sp) len a b
+unfolding buildNo layoutNo lentNo
+number-same r d u g good good' n len a b = rw (good, good', offset-same r d u g (levelCount r))
+
+builds-canon : (v : ℕ) (r : SuperOpts) → Packs v r → (g : Given) → (buildNo (layoutOf (candidate v) g) (length (g .src)) (g .sp) (length (g .frame)) (spillNeed (layoutOf (candidate v) g)) (scratchNeed (layoutOf (candidate v) g))) ≡ (buildNo (layoutOf r g) (length (g .src)) (g .sp) (length (g .frame)) (spillNeed (layoutOf r g)) (scratchNeed (layoutOf r g)))
+builds-canon v r p g =
+    ap (λ (x : SuperOpts). let q = layoutOf x g in buildNo q (length (g .src)) (g .sp) (length (g .frame)) (spillNeed q) (scratchNeed q)) (packs-canon v r p)
+    ∙ number-same r (fourOr r) (pos 0) g (p .good) (canon-accepted r (p .good)) (length (g .src)) (length (g .frame)) (spillNeed (layoutOf r g)) (scratchNeed (layoutOf r g))
+
+builds-both : (v : ℕ) (r s : SuperOpts) → Packs v r → Packs v s → (g : Given) → Builds r g → Builds s g
+builds-both v r s p q g e = sym (builds-canon v s q g) ∙ builds-canon v r p g ∙ e
+
+-- ---- a word that names one build
+pub same-build : (v : ℕ) → readNo v ≡ 0 → (r s : SuperOpts) → Packs v r → Packs v s → SameBuild Leaves r s
+same-build v e r s p q g m bs bf h = (builds-both v r s p q g (h .0), h .1 ∙ sym (leaves-canon v e r p g) ∙ leaves-canon v e s q g)
+
+-- "names one build exactly if ..", one way
+pub one-there : (v : ℕ) → readNo v ≡ 0 → ((r : SuperOpts) × Packs v r) × ((r s : SuperOpts) → Packs v r → Packs v s → SameBuild Leaves r s)
+one-there v e = ((candidate v, code-packs v (at-0 (read-case v) e .0)), same-build v e)
+
+-- ---- the filters that reading counts (`halvingOf`, `upscaleOf`) are those that a build takes
+abbrev halvingBy : ℕ → Chosen
+halvingBy n = cond (eqb n 1) (Filter Average) (cond (eqb n 2) (Filter Bilinear) (cond (eqb n 3) (Filter Quadratic) (cond (eqb n 4) (Filter Cubic) NoFilter)))
+
+few : (d : ℕ) → leb d 1 ≡ (eqb d 0 || eqb d 1)
+few zero = refl
+few (suc zero) = refl
+few (suc (suc d)) = rw (lt-leb (suc (suc d)) 1 (omega arith), ne-eqb (suc (suc d)) 0 (λ e. omega arith), ne-eqb (suc (suc d)) 1 (λ e. omega arith))
+
+halving-go : (a b c d : Bool) → cond a (Filter Average) (cond b (Filter Bilinear) (cond c (Filter Quadratic) (cond d (Filter Cubic) NoFilter))) ≡ halvingBy (cond a 1 (cond b 2 (cond c 3 (cond d 4 0))))
+halving-go true b c d = refl
+halving-go false true c d = refl
+halving-go false false true d = refl
+halving-go false false false true = refl
+halving-go false false false false = refl
+
+pub halving-named : (z : ℤ) → chosen z ≡ halvingBy (halvingOf z)
+unfolding chosen
+halving-named (pos d) = rw (few d) (halving-go (eqb d 0 || eqb d 1) (eqb d 2) (eqb d 3) (eqb d 4))
+halving-named (negsuc d) = refl
+
+abbrev upscaleBy : ℕ → Upscale
+upscaleBy n = cond (eqb n 0) Means (cond (eqb n 1) (Kernel CatmullRom) (Kernel Wiener))
+
+upscale-go : (a b : Bool) → cond a Means (cond b (Kernel CatmullRom) (Kernel Wiener)) ≡ upscaleBy (cond a 0 (cond b 1 2))
+upscale-go true b = refl
+upscale-go false true = refl
+upscale-go false false = refl
+
+pub upscale-named : (z : ℤ) → upscale z ≡ upscaleBy (upscaleOf z)
+unfolding upscale
+upscale-named (pos d) = upscale-go (eqb d 0) (eqb d 1)
+upscale-named (negsuc d) = refl

@@ -1,0 +1,119 @@
+-- One outcome: no second answer, row, frame, spill or scratch meets the contract of a public call (`OneOutcome`), by one law (`settled`). The calls of `settings` and `longhands`, proved there, are named among the imports; then come the rows of `filters`, the inner calls of `settings`, `layouts` and `builder`, and last the public calls of `layouts` and `planes`. docs/EXCEPTIONS.md has those that aren't here. Assumes nothing.
+use mathlib.Core.Path.{_≡_, ap}
+use mathlib.Core.List.{List}
+use Prim.Native.Nat.{ℕ}
+use contract.Lifetimes.{Lfts}
+use denote.Ref.{now}
+use Rattle.settings.specs.declared.refusal.Tested.{Tested}
+use Rattle.settings.proofs.Outcome.{OneOutcome, settled, itself}
+use Rattle.settings.proofs.Known.{tested-known}
+use Rattle.filters.proofs.rows.mean.Reads as mean-reads
+use Rattle.filters.proofs.rows.mean_row.Reads as mean-row-reads
+use Rattle.filters.proofs.rows.copy_row.Reads as copy-row-reads
+use Rattle.filters.proofs.rows.zero_row.Reads as zero-row-reads
+use Rattle.filters.proofs.rows.rest.Reads as rest-reads
+use Rattle.filters.proofs.halving.ReduceFilter.from_option.Reads as reduce-from-option-reads
+use Rattle.filters.proofs.halving.ReduceFilter.first_row.Reads as first-row-reads
+use Rattle.filters.proofs.halving.ReduceFilter.last_row.Reads as last-row-reads
+use Rattle.filters.proofs.halving.ReduceFilter.vertical_edge.Reads as vertical-edge-reads
+use Rattle.filters.proofs.halving.ReduceFilter.vertical_filter.Reads as vertical-filter-reads
+use Rattle.filters.proofs.halving.ReduceFilter.reduce_row.Reads as reduce-row-reads
+use Rattle.filters.proofs.halving.cubic_rest.Reads as cubic-rest-reads
+use Rattle.filters.proofs.half_pel.HalfPel.from_option.Reads as half-pel-from-option-reads
+use Rattle.filters.proofs.half_pel.HalfPel.vertical.Reads as half-vertical-reads
+use Rattle.filters.proofs.half_pel.HalfPel.horizontal.Reads as half-horizontal-reads
+use Rattle.layouts.proofs.Known.{laid-known, ended-known, needed-known, placed-known, left-known}
+use Rattle.layouts.proofs.layout.Layout.level_regions.Reads as level-regions-reads
+use Rattle.layouts.proofs.layout.Layout.written_end.Reads as written-end-reads
+use Rattle.layouts.proofs.layout.Layout.needs.Reads as needs-reads
+use Rattle.layouts.proofs.rows.row_tested.Reads as row-tested-reads
+use Rattle.layouts.proofs.rows.row_place.Reads as row-place-reads
+use Rattle.layouts.proofs.rows.row.Reads as row-reads
+use Rattle.layouts.proofs.margins.clear_margins.Reads as clear-margins-reads
+use Rattle.planes.proofs.build.build_plane.Reads as build-plane-reads
+pub use Rattle.settings.proofs.Unique.{from-opt-unique, accepted-unique, pack-data-unique, super-height-unique, super-width-unique, read-word-unique, prepare-alike-unique, reduce-dim-unique, naturals-unique, number-unique, then-refuse-unique, is-fine-unique, natural-unique, bit-unique, to-bits-unique, from-bits-unique}
+pub use Rattle.longhands.proofs.Unique.{read-longhand-unique, write-longhand-unique}
+
+-- ---- the rows of `filters`
+pub mean-unique : (κs : Lfts 0) → OneOutcome (mean-reads.Post κs) (λ r e. r)
+mean-unique κs x r s e f p q = settled itself p q
+
+pub mean-row-unique : (κs : Lfts 3) → OneOutcome (mean-row-reads.Post κs) (λ r e. now (e .0))
+mean-row-unique κs x r s e f p q = settled itself p q
+
+pub copy-row-unique : (κs : Lfts 2) → OneOutcome (copy-row-reads.Post κs) (λ r e. now (e .0))
+copy-row-unique κs x r s e f p q = settled itself p q
+
+pub zero-row-unique : (κs : Lfts 1) → OneOutcome (zero-row-reads.Post κs) (λ r e. now (e .0))
+zero-row-unique κs x r s e f p q = settled itself p q
+
+pub rest-unique : (κs : Lfts 1) → OneOutcome (rest-reads.Post κs) (λ r e. now r)
+rest-unique κs x r s e f p q = settled itself p q
+
+pub reduce-from-option-unique : (κs : Lfts 0) → OneOutcome (reduce-from-option-reads.Post κs) (λ r e. r)
+reduce-from-option-unique κs x r s e f p q = settled itself p q
+
+pub first-row-unique : (κs : Lfts 0) → OneOutcome (first-row-reads.Post κs) (λ r e. r)
+first-row-unique κs x r s e f p q = settled itself p q
+
+pub last-row-unique : (κs : Lfts 0) → OneOutcome (last-row-reads.Post κs) (λ r e. r)
+last-row-unique κs x r s e f p q = settled itself p q
+
+pub vertical-edge-unique : (κs : Lfts 0) → OneOutcome (vertical-edge-reads.Post κs) (λ r e. r)
+vertical-edge-unique κs x r s e f p q = settled itself p q
+
+pub vertical-filter-unique : (κs : Lfts 7) → OneOutcome (vertical-filter-reads.Post κs) (λ r e. now (e .1 .0))
+vertical-filter-unique κs x r s e f p q = settled itself p q
+
+pub reduce-row-unique : (κs : Lfts 2) → OneOutcome (reduce-row-reads.Post κs) (λ r e. now (e .1 .0))
+reduce-row-unique κs x r s e f p q = settled itself p q
+
+pub cubic-rest-unique : (κs : Lfts 7) → OneOutcome (cubic-rest-reads.Post κs) (λ r e. now (e .0))
+cubic-rest-unique κs x r s e f p q = settled itself p q
+
+pub half-pel-from-option-unique : (κs : Lfts 0) → OneOutcome (half-pel-from-option-reads.Post κs) (λ r e. r)
+half-pel-from-option-unique κs x r s e f p q = settled itself p q
+
+pub half-vertical-unique : (κs : Lfts 7) → OneOutcome (half-vertical-reads.Post κs) (λ r e. now (e .1 .0))
+half-vertical-unique κs x r s e f p q = settled itself p q
+
+pub half-horizontal-unique : (κs : Lfts 2) → OneOutcome (half-horizontal-reads.Post κs) (λ r e. now (e .1 .0))
+half-horizontal-unique κs x r s e f p q = settled itself p q
+
+-- ---- the calls of `layouts` and `planes`
+pub level-regions-unique : (κs : Lfts 0) → OneOutcome (level-regions-reads.Post κs) (λ r e. r)
+level-regions-unique κs x r s e f p q = settled laid-known p q
+
+pub written-end-unique : (κs : Lfts 0) → OneOutcome (written-end-reads.Post κs) (λ r e. r)
+written-end-unique κs x r s e f p q = settled ended-known p q
+
+pub needs-unique : (κs : Lfts 0) → OneOutcome (needs-reads.Post κs) (λ r e. r)
+needs-unique κs x r s e f p q = settled needed-known p q
+
+pub row-tested-unique : (κs : Lfts 0) → OneOutcome (row-tested-reads.Post κs) (λ r e. r)
+row-tested-unique κs x r s e f p q = settled tested-known p q
+
+pub row-place-unique : (κs : Lfts 0) → OneOutcome (row-place-reads.Post κs) (λ r e. r)
+row-place-unique κs x r s e f p q = settled placed-known p q
+
+-- the bytes of the row
+pub row-unique : (κs : Lfts 1) → OneOutcome (row-reads.Post κs) (λ r e. now r)
+row-unique κs x r s e f p q = settled itself p q
+
+-- the answer and the frame
+pub clear-margins-unique : (κs : Lfts 1) → OneOutcome {O = Tested × List ℕ} (clear-margins-reads.Post κs) (λ r e. (r, now (e .0)))
+clear-margins-unique κs x r s e f p q = settled left-known {a = (r, now (e .0))} {b = (s, now (f .0))} p q
+
+-- the answer, the frame, and what spill and scratch are left as
+pub build-plane-unique : (κs : Lfts 4) → OneOutcome {O = Tested × List ℕ × List ℕ × List ℕ} (build-plane-reads.Post κs) (λ r e. (r, now (e .0), now (e .1 .0), now (e .1 .1 .0)))
+build-plane-unique κs x r s e f p q =
+    let frame = settled left-known {a = (r, now (e .0))} {b = (s, now (f .0))} (p .0) (q .0) in
+    let spill = settled left-known {a = (r, now (e .1 .0))} {b = (s, now (f .1 .0))} (p .1) (q .1) in
+    let scratch = settled left-known {a = (r, now (e .1 .1 .0))} {b = (s, now (f .1 .1 .0))} (p .2) (q .2) in
+    rw (number frame, bytes frame, bytes spill, bytes scratch)
+  where
+    number : {a b : Tested × List ℕ} → a ≡ b → a .0 ≡ b .0
+    number = ap (λ (a : Tested × List ℕ). a .0)
+
+    bytes : {a b : Tested × List ℕ} → a ≡ b → a .1 ≡ b .1
+    bytes = ap (λ (a : Tested × List ℕ). a .1)

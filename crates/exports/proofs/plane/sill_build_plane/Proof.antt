@@ -1,0 +1,52 @@
+-- `sill_build_plane` meets its contract. Assumes nothing.
+use mathlib.Core.Path.{ap, _∙_}
+use Prim.Native.Nat.{ℕ}
+use denote.Ref.{now}
+use borrow.Author.Needs.{needs}
+use Rattle.settings.specs.Answers.{answer}
+use Rattle.layouts.specs.declared.layout.Layout.{Layout}
+use Rattle.planes.specs.Answers.{planeNo, buildAnswer, lentAfter}
+use Rattle.exports.proofs.plane.sill_build_plane.Statement.{statement}
+use Rattle.exports.proofs.plane.sill_build_plane.Tie as tie
+
+layout-of-requires : tie.Need-layout-of-requires
+layout-of-requires c κs = search needs
+
+build-plane-requires : tie.Need-build-plane-requires
+build-plane-requires c κs = search needs
+
+number-requires : tie.Need-number-requires
+number-requires c κs = search needs
+
+same-length : tie.Need-same-length
+same-length c = search needs
+
+same-length-2 : tie.Need-same-length-2
+same-length-2 c = search needs
+
+same-length-3 : tie.Need-same-length-3
+same-length-3 c = search needs
+
+returns : tie.Need-returns
+returns c =
+    let m = c .before .before .before .before .before .before .before in
+    let a = c .before .before .before .before .before .before .before .before .before .before .before .before .before .before .before .before .args in
+    let src = now (a .src) in
+    let F = now (a .frame) in
+    let S = now (a .spill) in
+    let X = now (a .scratch) in
+    let no = c .number .ensures in
+    let laid = c .before .before .before .before .before .before .before .before .before .before .before .layout-of .ensures in
+    (ap (λ (n : ℕ). answer n (m .build-plane .last .0)) no ∙ m .build-plane .ensures .0 ∙ ap (λ (l : Layout). buildAnswer (planeNo l src (a .src-pitch) F S X) l src (a .src-pitch) F) laid, ap (λ (n : ℕ). answer n (m .build-plane .last .1 .0)) no ∙ m .build-plane .ensures .1 ∙ ap (λ (l : Layout). lentAfter (planeNo l src (a .src-pitch) F S X) S) laid, ap (λ (n : ℕ). answer n (m .build-plane .last .1 .1 .0)) no ∙ m .build-plane .ensures .2 ∙ ap (λ (l : Layout). lentAfter (planeNo l src (a .src-pitch) F S X) X) laid)
+
+pub sill-build-plane-spec : {M : Type 1} → statement M
+sill-build-plane-spec =
+    tie.close
+    (tie.spec
+    layout-of-requires
+    build-plane-requires
+    number-requires
+    same-length
+    same-length-2
+    same-length-3
+    returns)

@@ -1,0 +1,67 @@
+-- `sill_needs` meets its contract. Assumes nothing.
+use mathlib.Core.Path.{refl, sym, ap, _∙_}
+use denote.Ref.{now}
+use borrow.Author.Needs.{needs}
+use Rattle.settings.proofs.Known.{number-of}
+use Rattle.layouts.specs.declared.layout.Layout.{Layout}
+use Rattle.layouts.specs.Answers.{needed, needsOf, noNeeds}
+use Rattle.exports.specs.Numbers.{needNumbers}
+use Rattle.exports.specs.Answers.{needsTells}
+use Rattle.exports.proofs.Telling.{tell-refused, tell-given}
+use Rattle.exports.proofs.plane.sill_needs.Statement.{statement}
+use Rattle.exports.proofs.plane.sill_needs.Tie as tie
+
+layout-of-requires : tie.Need-layout-of-requires
+layout-of-requires c κs = search needs
+
+needs-requires : tie.Need-needs-requires
+needs-requires c κs = search needs
+
+enum-known-n : tie.Need-enum-known-n
+enum-known-n c = search needs
+
+slice-aggregate-put-sizes : tie.Need-slice-aggregate-put-sizes
+slice-aggregate-put-sizes c = search needs
+
+put-sizes-requires : tie.Need-put-sizes-requires
+put-sizes-requires c κs = search needs
+
+enum-known-f : tie.Need-enum-known-f
+enum-known-f c = search needs
+
+lowest-requires : tie.Need-lowest-requires
+lowest-requires c κs = search needs
+
+same-length : tie.Need-same-length
+same-length c = search needs
+
+returns : tie.Need-returns
+returns c =
+    let m = c .before .before .before .before .before .before .before .before in
+    let q = m .before .layout-of .result in
+    let a = m .before .before .before .args in
+    tell-given needNumbers (now (a .needs)) (needsOf q) noNeeds (sym (ap needed (c .before .before .before .before .before .before .n .given .1)) ∙ m .needs .ensures) refl (c .before .before .put-sizes .ensures)
+    ∙ ap (λ (l : Layout). needsTells l (now (a .needs))) (m .before .layout-of .ensures)
+
+returns-2 : tie.Need-returns-2
+returns-2 c =
+    let m = c .before .before .before .before in
+    let q = m .before .layout-of .result in
+    let a = m .before .before .before .args in
+    tell-refused (c .before .before .f .given .0 .0) (needNumbers (needsOf q)) (now (a .needs)) (number-of (sym (ap needed (c .before .before .f .given .1)) ∙ m .needs .ensures)) (c .lowest .ensures) refl
+    ∙ ap (λ (l : Layout). needsTells l (now (a .needs))) (m .before .layout-of .ensures)
+
+pub sill-needs-spec : {M : Type 1} → statement M
+sill-needs-spec =
+    tie.close
+    (tie.spec
+    layout-of-requires
+    needs-requires
+    enum-known-n
+    slice-aggregate-put-sizes
+    put-sizes-requires
+    enum-known-f
+    lowest-requires
+    same-length
+    returns
+    returns-2)

@@ -1,0 +1,14 @@
+-- Document 01, "Settings and sizes" and "Numbers a call can give", for a plane of a frame, as definitions. In the order to read them:
+--     Storing    a run stored in a list of bytes, and steps in order
+--     Layout     a plane's levels, and where they lie
+--     Margins    which levels are fused, and the margins of those that aren't
+--     Numbers    the numbers that a call refuses with
+--     Room       what no offset exceeds, and what a build is lent
+--     Answers    the number and value of a layout's calls, and of each answer
+-- What is proved of these is in proofs/.
+pub mod Storing
+pub mod Layout
+pub mod Margins
+pub mod Numbers
+pub mod Room
+pub mod Answers

@@ -1,0 +1,130 @@
+// A plane's levels by their numbers: what the calls are made of.
+// A level's width, height and planes; refusals 6, 7 and 8; offsets; refusal 11; regions. Only an accepted layout has offsets that fit.
+ghost use mathlib.Core.Path.{_≡_};
+ghost use Prim.Native.Nat.{_/_, _^_, _≤_};
+ghost use Rattle.settings.specs.Limits.{mostLevels};
+ghost use Rattle.settings.specs.Answers.{tested};
+ghost use Rattle.layouts.specs.Layout.{widthAt, heightAt, storedAt, offsetAt, regionOr};
+ghost use Rattle.layouts.specs.Numbers.{leastPitch, badPitch, layoutNo, frameNo};
+use crate::layout::Ended;
+use crate::layout::Layout;
+use crate::layout::Region;
+use settings::limits::MOST_PITCH;
+use settings::refusal::Refusal;
+use settings::refusal::Tested;
+use settings::super_opts::reduce_dim;
+
+// By any shift.
+fn shifted(n: u32, shift: u32) -> u32
+    ensures { λ r. ⌜ r ≡ n / 2 ^ shift ⌝ }
+{
+    if shift < 32 {
+        return n >> shift;
+    }
+    0
+}
+
+pub(crate) fn bad_pitch(pitch: usize, least: usize) -> bool
+    ensures { λ r. ⌜ r ≡ badPitch pitch least ⌝ }
+{
+    (pitch < 1) | (pitch < least) | (pitch > MOST_PITCH)
+}
+
+pub fn width(layout: Layout, level: u32) -> usize
+    ensures { λ r. ⌜ r ≡ widthAt layout level ⌝ }
+{
+    let opts = layout.opts;
+    let n = opts.naturals();
+    shifted(reduce_dim(n.width, level), layout.x_shift) as usize
+}
+
+pub fn height(layout: Layout, level: u32) -> usize
+    ensures { λ r. ⌜ r ≡ heightAt layout level ⌝ }
+{
+    let opts = layout.opts;
+    let n = opts.naturals();
+    shifted(reduce_dim(n.height, level), layout.y_shift) as usize
+}
+
+// The planes that a level keeps.
+pub(crate) fn stored(layout: Layout, level: u32) -> usize
+    ensures { λ r. ⌜ r ≡ storedAt layout level ⌝ }
+{
+    if level != 0 {
+        return 1;
+    }
+    let opts = layout.opts;
+    if !opts.full {
+        return 0;
+    }
+    let n = opts.naturals();
+    n.pel as usize * n.pel as usize
+}
+
+// Level 1's width counts where level 0 isn't stored, even if there is no level 1.
+fn least_pitch(layout: Layout) -> usize
+    ensures { λ r. ⌜ r ≡ leastPitch layout ⌝ }
+{
+    let opts = layout.opts;
+    if opts.full {
+        return width(layout, 0);
+    }
+    width(layout, 1)
+}
+
+// Refusals 6, 7 and 8.
+pub(crate) fn tested(layout: Layout) -> Tested
+    ensures { λ r. ⌜ tested r ≡ layoutNo layout ⌝ }
+{
+    let opts = layout.opts;
+    let record = opts.accepted();
+    let least = least_pitch(layout);
+    let bad = bad_pitch(layout.pitch, least);
+    Tested::Fine
+        .then_refuse(!record, Refusal::NoRecord)
+        .then_refuse((layout.x_shift > 1) | (layout.y_shift > 1), Refusal::Shift)
+        .then_refuse(bad, Refusal::Pitch)
+}
+
+// Where a level lies; at the count of levels, where the last one ends.
+pub fn offset(layout: Layout, level: u32) -> usize
+    requires { ⌜ (layoutNo layout ≡ 0) × (level ≤ mostLevels) ⌝ }
+    ensures { λ r. ⌜ r ≡ offsetAt layout level ⌝ }
+{
+    let mut offset = 0;
+    for above in 0..level {
+        offset += stored(layout, above) * height(layout, above) * layout.pitch;
+    }
+    offset
+}
+
+// Refusals 6, 7, 8 and 11.
+pub(crate) fn frame_tested(layout: Layout, len: usize) -> Tested
+    ensures { λ r. ⌜ tested r ≡ frameNo layout len ⌝ }
+{
+    match layout.written_end() {
+        Ended::End(end) => Tested::Fine.then_refuse(len < end, Refusal::Frame),
+        Ended::Refused(f) => Tested::Refused(f),
+    }
+}
+
+// Zeros where there is no such level.
+pub fn region(layout: Layout, level: u32) -> Region
+    requires { ⌜ layoutNo layout ≡ 0 ⌝ }
+    ensures { λ r. ⌜ r ≡ regionOr layout level ⌝ }
+{
+    let opts = layout.opts;
+    let n = opts.naturals();
+    if n.levels <= level {
+        return Region {
+            offset: 0,
+            width: 0,
+            height: 0,
+        };
+    }
+    Region {
+        offset: offset(layout, level),
+        width: width(layout, level),
+        height: height(layout, level),
+    }
+}

@@ -1,0 +1,96 @@
+// The margins of a frame's levels, from the width to the pitch: open-svpflow's `clear_margins` and `cubic_fits`, their names kept.
+// First which levels are fused; then a level's margins; last the public call.
+ghost use mathlib.Core.Path.{_≡_};
+ghost use Prim.Native.Nat.{_+_, _*_, _≤_, _<_};
+ghost use lib.ListN.{length};
+ghost use Rattle.settings.specs.Limits.{mostSide, mostPitch};
+ghost use Rattle.settings.specs.Answers.{answer, tested};
+ghost use Rattle.layouts.specs.Layout.{levelsOf, writtenEnd};
+ghost use Rattle.layouts.specs.Margins.{cubicFits, fusedAt, clearRows, clearLevel, cleared};
+ghost use Rattle.layouts.specs.Numbers.{layoutNo};
+ghost use Rattle.layouts.specs.Answers.{clearAnswer};
+ghost use Rattle.layouts.specs.Room.{mostOffset};
+use crate::layout::Layout;
+use crate::layout::Region;
+use crate::levels::frame_tested;
+use crate::levels::offset;
+use crate::levels::region;
+use filters::rows::zero_row;
+use settings::refusal::Tested;
+
+// Whether the fused cubic has room between its source, at base, and the frame's end.
+fn cubic_fits(base: usize, pitch: usize, target: Region, len: usize) -> bool
+    requires { ⌜ (base ≤ mostOffset) × (pitch ≤ mostPitch) × (target .offset ≤ mostOffset) × (target .width ≤ mostSide) × (target .height ≤ mostSide) ⌝ }
+    ensures { λ r. ⌜ r ≡ cubicFits base pitch target len ⌝ }
+{
+    if target.width < 8 {
+        return false;
+    }
+    if target.height < 2 {
+        return false;
+    }
+    let width2 = 2 * target.width;
+    let source_end = base + (2 * target.height - 1) * pitch + width2;
+    let target_end = target.offset + (target.height - 1) * pitch + width2;
+    (width2 % 8 == 0) & (width2 <= pitch) & (source_end <= target.offset) & (target_end <= len)
+}
+
+// Whether a later level is halved by the fused cubic, in a frame of len bytes.
+pub fn is_fused(layout: Layout, level: u32, len: usize) -> bool
+    requires { ⌜ (layoutNo layout ≡ 0) × (1 ≤ level) × (level < levelsOf layout) ⌝ }
+    ensures { λ r. ⌜ r ≡ fusedAt layout len level ⌝ }
+{
+    let opts = layout.opts;
+    let base = offset(layout, level - 1);
+    let target = region(layout, level);
+    let fits = cubic_fits(base, layout.pitch, target, len);
+    (opts.scale_down == 4) & (opts.full | (level >= 2)) & fits
+}
+
+fn clear_rows(frame: &mut [u8], target: Region, pitch: usize)
+    requires { ⌜ (target .width ≤ pitch) × (target .offset + target .height * pitch ≤ length (now frame)) ⌝ }
+    ensures { λ r. ⌜ now (frame .exit) ≡ clearRows target pitch (now (frame .entry)) ⌝ }
+{
+    let height = target.height;
+    for y in 0..height {
+        let start = target.offset + y * pitch;
+        let from = start + target.width;
+        let end = start + pitch;
+        zero_row(&mut frame[from..end]);
+    }
+}
+
+fn clear_level(frame: &mut [u8], layout: Layout, level: u32)
+    requires { ⌜ (layoutNo layout ≡ 0) × (1 ≤ level) × (level < levelsOf layout) × (writtenEnd layout ≤ length (now frame)) ⌝ }
+    ensures { λ r. ⌜ now (frame .exit) ≡ clearLevel layout level (now (frame .entry)) ⌝ }
+{
+    if is_fused(layout, level, frame.len()) {
+        return;
+    }
+    let target = region(layout, level);
+    clear_rows(frame, target, layout.pitch);
+}
+
+fn clear_levels(frame: &mut [u8], layout: Layout)
+    requires { ⌜ (layoutNo layout ≡ 0) × (writtenEnd layout ≤ length (now frame)) ⌝ }
+    ensures { λ r. ⌜ now (frame .exit) ≡ cleared layout (now (frame .entry)) ⌝ }
+{
+    let opts = layout.opts;
+    let n = opts.naturals();
+    let levels = n.levels;
+    for level in 1..levels {
+        clear_level(frame, layout, level);
+    }
+}
+
+// Zeroes the margins of later levels that aren't fused. Refusals 6, 7, 8 and 11.
+pub fn clear_margins(frame: &mut [u8], layout: Layout) -> Tested
+    ensures { λ r. ⌜ answer (tested r) (now (frame .exit)) ≡ clearAnswer layout (now (frame .entry)) ⌝ }
+{
+    let t = frame_tested(layout, frame.len());
+    let Tested::Fine = t else {
+        return t;
+    };
+    clear_levels(frame, layout);
+    Tested::Fine
+}

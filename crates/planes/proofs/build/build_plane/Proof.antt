@@ -1,0 +1,94 @@
+-- `build_plane` meets its contract. Assumes nothing.
+use mathlib.Core.Path.{_≡_, sym, ap, _∙_}
+use mathlib.Core.List.{List}
+use Prim.Native.Nat.{ℕ}
+use lib.ListN.{length, replicate}
+use denote.Ref.{now}
+use borrow.Author.Needs.{needs}
+use Rattle.settings.specs.Answers.{answer, tested}
+use Rattle.settings.proofs.Known.{given, refused}
+use Rattle.planes.specs.Build.{builtFrame}
+use Rattle.planes.specs.Answers.{planeNo, lentAfter}
+use Rattle.planes.proofs.Whole.{ready}
+use Rattle.planes.proofs.build.build_plane.Statement.{statement}
+use Rattle.planes.proofs.build.build_plane.Tie as tie
+
+passed : (c : tie.After-enum-told) → planeNo (c .before .before .before .before .before .before .before .args .layout) (now (c .before .before .before .before .before .before .before .args .src)) (c .before .before .before .before .before .before .before .args .src-pitch) (now (c .before .before .before .before .before .before .before .args .frame)) (now (c .before .before .before .before .before .before .before .args .spill)) (now (c .before .before .before .before .before .before .before .args .scratch)) ≡ 0
+passed c = sym (c .before .before .build-tested .ensures) ∙ ap tested (c .enum-told .given .1)
+
+-- what was lent as l was of k bytes still, and was zeroed
+zeros : (n k : ℕ) (l z : List ℕ) → z ≡ replicate k 0 → k ≡ length l → n ≡ 0 → answer 0 z ≡ lentAfter n l
+zeros n k l z e kept none = ap (answer 0) (e ∙ ap (λ (m : ℕ). replicate m 0) kept) ∙ given n (replicate (length l) 0) l none
+
+build-tested-requires : tie.Need-build-tested-requires
+build-tested-requires c κs = tt
+
+enum-told : tie.Need-enum-told
+enum-told c = search needs
+
+enum-told-2 : tie.Need-enum-told-2
+enum-told-2 c = search needs
+
+returns : tie.Need-returns
+returns c =
+    let a = c .before .before .before .before .before .before .before .args in
+    let told = c .enum-told2 .given in
+    let src = now (a .src) in
+    let F = now (a .frame) in
+    let S = now (a .spill) in
+    let X = now (a .scratch) in
+    let n = planeNo (a .layout) src (a .src-pitch) F S X in
+    let e = sym (ap tested (told .1)) ∙ c .before .before .build-tested .ensures in
+    rw (told .1)
+    (refused n (told .0 .0) (builtFrame (a .layout) src (a .src-pitch) F) F e, refused n (told .0 .0) (replicate (length S) 0) S e, refused n (told .0 .0) (replicate (length X) 0) X e)
+
+build-spilled-requires : tie.Need-build-spilled-requires
+build-spilled-requires c κs = ready _ _ _ _ _ _ (passed (c .before .before .before))
+
+zero-row-requires : tie.Need-zero-row-requires
+zero-row-requires c κs = tt
+
+zero-row-requires-2 : tie.Need-zero-row-requires-2
+zero-row-requires-2 c κs = tt
+
+-- The lengths are searched for, though each has a term of its own: so a build that zeroes another slice is refused at the bytes that it leaves, not here.
+same-length : tie.Need-same-length
+same-length c = search needs
+
+same-length-2 : tie.Need-same-length-2
+same-length-2 c = search needs
+
+same-length-3 : tie.Need-same-length-3
+same-length-3 c = search needs
+
+returns-2 : tie.Need-returns-2
+returns-2 c =
+    let at-zero-row2 = c .before .before in
+    let at-zero-row = at-zero-row2 .before .before .before .before in
+    let at-build-spilled = at-zero-row .before .before .before .before .before .before .before .before in
+    let at-told = at-build-spilled .before .before .before .before in
+    let a = at-told .before .before .before .before .before .before .before .args in
+    let src = now (a .src) in
+    let F = now (a .frame) in
+    let S = now (a .spill) in
+    let X = now (a .scratch) in
+    let n = planeNo (a .layout) src (a .src-pitch) F S X in
+    let e = passed at-told in
+    let k = at-build-spilled .build-spilled .kept in
+    (ap (answer 0) (at-build-spilled .build-spilled .ensures) ∙ given n (builtFrame (a .layout) src (a .src-pitch) F) F e, zeros n _ S _ (at-zero-row .zero-row .ensures) (k .1 .0) e, zeros n _ X _ (at-zero-row2 .zero-row2 .ensures) (k .1 .1 .0) e)
+
+pub build-plane-spec : {M : Type 1} → statement M
+build-plane-spec =
+    tie.close
+    (tie.spec
+    build-tested-requires
+    enum-told
+    enum-told-2
+    returns
+    build-spilled-requires
+    zero-row-requires
+    zero-row-requires-2
+    same-length
+    same-length-2
+    same-length-3
+    returns-2)

@@ -1,0 +1,58 @@
+-- Document 01, "How a plane is built": the whole, in the document's order.
+use Prim.Native.Nat.{ℕ, _+_, _*_, _-_}
+use mathlib.Core.Bool.{Bool, cond, _&&_, _||_}
+use mathlib.Core.List.{List, _++_}
+use lib.Dec.{leb, ltb, eqb}
+use lib.ListN.{length, take, replicate}
+use Rattle.settings.specs.Numbers.{toNat}
+use Rattle.settings.specs.Check.{pelOf}
+use Rattle.filters.specs.declared.halving.ReduceFilter.{ReduceFilter}
+use Rattle.filters.specs.declared.halving.Chosen.{Chosen}
+use Rattle.filters.specs.declared.halving.Chosen.the-variants.{Filter, NoFilter}
+use Rattle.filters.specs.Halve.{chosen}
+use Rattle.filters.specs.Refine.{upscale}
+use Rattle.layouts.specs.declared.layout.Layout.{Layout}
+use Rattle.layouts.specs.Storing.{put, steps}
+use Rattle.layouts.specs.Layout.{levelsOf, widthAt, heightAt, offsetAt, regionAt, spillNeed}
+use Rattle.layouts.specs.Margins.{fusedAt}
+use Rattle.builder.specs.declared.refining.Interp.{Interp}
+use Rattle.builder.specs.Canvas.{fetch, _▷_}
+use Rattle.builder.specs.Halving.{fromStored, fused, fromSource}
+use Rattle.builder.specs.Refining.{refine}
+
+-- level 0's planes
+abbrev pub planesOf : Layout → Interp
+planesOf q = record { pitch = q .pitch; width = widthAt q 0; height = heightAt q 0 }
+
+-- "Level 0, if full: h rows of w bytes copied", from the source plane src, whose rows are sp apart
+unfoldable pub copied : Layout → List ℕ → ℕ → List ℕ → List ℕ
+copied q src sp c = steps (λ y d. put d (y * q .pitch) (fetch src (y * sp) (widthAt q 0))) (heightAt q 0) c
+
+-- level l, by the filter f, in a frame of len bytes: "Fused cubic is taken when the source level is stored and `cubic_fits` holds"; "Not full: level 1 comes from the source plane"
+unfoldable pub halveLevel : Layout → List ℕ → ℕ → ℕ → ReduceFilter → ℕ → List ℕ → List ℕ
+halveLevel q src sp len f l c =
+    let base = offsetAt q (l - 1) in
+    cond (fusedAt q len l) (fused base (q .pitch) (regionAt q l) c)
+    (cond (q .opts .full || leb 2 l) (fromStored f base (q .pitch) (regionAt q l) c) (fromSource f src sp (q .pitch) (regionAt q l) c))
+
+-- "any other value leaves later levels unwritten"
+unfoldable pub halved : Layout → List ℕ → ℕ → ℕ → Chosen → List ℕ → List ℕ
+halved q src sp len (Filter f) c = steps (λ i. halveLevel q src sp len f (i + 1)) (levelsOf q - 1) c
+halved q src sp len NoFilter c = c
+
+-- "Refining, after halving, if pel > 1, gpu < 2 and full."
+abbrev pub refines : Layout → Bool
+refines q = ltb 1 (pelOf (q .opts)) && ltb (toNat (q .opts .gpu)) 2 && q .opts .full
+
+unfoldable pub refined : Layout → List ℕ → List ℕ
+refined q c = cond (refines q) (refine (planesOf q) (pelOf (q .opts)) (upscale (q .opts .«scale_up»)) c) c
+
+-- the canvas c after a build in a frame of len bytes: "With no level, no frame byte is written."
+unfoldable pub built : Layout → List ℕ → ℕ → ℕ → List ℕ → List ℕ
+built q src sp len c =
+    let first = cond (q .opts .full) (copied q src sp c) c in
+    cond (eqb (levelsOf q) 0) c (first ▷ halved q src sp len (chosen (q .opts .«scale_down»)) ▷ refined q)
+
+-- "A byte stored past the frame goes to the spill", which holds zeros before; what is left is the frame
+unfoldable pub builtFrame : Layout → List ℕ → ℕ → List ℕ → List ℕ
+builtFrame q src sp f = take (length f) (built q src sp (length f) (f ++ replicate (spillNeed q) 0))

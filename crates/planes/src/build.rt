@@ -1,0 +1,132 @@
+// A plane of a frame, built whole: open-svpflow's `build_plane`.
+// First level 0; then the refining of it; then all stages; last the public call.
+ghost use mathlib.Core.Path.{_≡_};
+ghost use mathlib.Core.Bool.{cond};
+ghost use mathlib.Core.List.{_++_};
+ghost use Prim.Native.Nat.{_≤_};
+ghost use lib.ListN.{length};
+ghost use Rattle.settings.specs.Answers.{answer, tested};
+ghost use Rattle.layouts.specs.Layout.{levelsOf, writtenEnd, spillNeed, scratchNeed};
+ghost use Rattle.layouts.specs.Numbers.{layoutNo};
+ghost use Rattle.layouts.specs.Room.{Ready};
+ghost use Rattle.planes.specs.Build.{copied, refined, built, builtFrame};
+ghost use Rattle.planes.specs.Answers.{planeNo, buildAnswer, lentAfter};
+use crate::later::reduce_levels;
+use crate::level0::source_row;
+use builder::canvas::put;
+use builder::refining::Interp;
+use builder::refining::refine;
+use filters::half_pel::HalfPel;
+use filters::rows::zero_row;
+use layouts::layout::Layout;
+use layouts::lent::build_tested;
+use layouts::lent::spill_need;
+use layouts::levels::height;
+use layouts::levels::width;
+use settings::refusal::Tested;
+
+// Level 0, where it is stored: the source plane's rows, src_pitch apart.
+fn copy_rows(frame: &mut [u8], layout: Layout, src: &[u8], src_pitch: usize)
+    requires { ⌜ (1 ≤ levelsOf layout) × (Ready layout (length (now src)) «src_pitch» (length (now frame)) (spillNeed layout) (scratchNeed layout)) ⌝ }
+    ensures { λ r. ⌜ now (frame .exit) ≡ cond (layout .opts .full) (copied layout (now (src .entry)) «src_pitch» (now (frame .entry))) (now (frame .entry)) ⌝ }
+{
+    let opts = layout.opts;
+    if !opts.full {
+        return;
+    }
+    let w = width(layout, 0);
+    let h = height(layout, 0);
+    for y in 0..h {
+        put(frame, y * layout.pitch, source_row(src, src_pitch, w, h, y));
+    }
+}
+
+// Whether level 0's planes are refined, and the refining.
+fn refine_planes(frame: &mut [u8], spill: &mut [u8], scratch: &mut [u8], layout: Layout)
+    requires { ⌜ (layoutNo layout ≡ 0) × (1 ≤ levelsOf layout) × (writtenEnd layout ≤ length (now frame)) × (spillNeed layout ≤ length (now spill)) × (scratchNeed layout ≤ length (now scratch)) ⌝ }
+    ensures { λ r. ⌜ now (frame .exit) ++ now (spill .exit) ≡ refined layout (now (frame .entry) ++ now (spill .entry)) ⌝ }
+{
+    let opts = layout.opts;
+    let n = opts.naturals();
+    let refines = (n.pel > 1) & (n.gpu < 2) & opts.full;
+    if !refines {
+        return;
+    }
+    let i = Interp {
+        pitch: layout.pitch,
+        width: width(layout, 0),
+        height: height(layout, 0),
+    };
+    let upscale = HalfPel::from_option(opts.scale_up);
+    refine(frame, spill, scratch, i, n.pel, upscale);
+}
+
+fn build_levels(
+    frame: &mut [u8],
+    spill: &mut [u8],
+    scratch: &mut [u8],
+    layout: Layout,
+    src: &[u8],
+    src_pitch: usize,
+)
+    requires { ⌜ Ready layout (length (now src)) «src_pitch» (length (now frame)) (length (now spill)) (length (now scratch)) ⌝ }
+    ensures { λ r. ⌜ now (frame .exit) ++ now (spill .exit) ≡ built layout (now (src .entry)) «src_pitch» (length (now (frame .entry))) (now (frame .entry) ++ now (spill .entry)) ⌝ }
+{
+    let opts = layout.opts;
+    let n = opts.naturals();
+    if n.levels == 0 {
+        return;
+    }
+    copy_rows(frame, layout, src, src_pitch);
+    reduce_levels(frame, spill, scratch, layout, src, src_pitch);
+    refine_planes(frame, spill, scratch, layout);
+}
+
+// As much of the spill as a build may read holds zeros before.
+fn build_spilled(
+    frame: &mut [u8],
+    spill: &mut [u8],
+    scratch: &mut [u8],
+    layout: Layout,
+    src: &[u8],
+    src_pitch: usize,
+)
+    requires { ⌜ Ready layout (length (now src)) «src_pitch» (length (now frame)) (length (now spill)) (length (now scratch)) ⌝ }
+    ensures { λ r. ⌜ now (frame .exit) ≡ builtFrame layout (now (src .entry)) «src_pitch» (now (frame .entry)) ⌝ }
+{
+    let need = spill_need(layout);
+    let beyond = &mut spill[..need];
+    zero_row(beyond);
+    build_levels(frame, beyond, scratch, layout, src, src_pitch);
+}
+
+// Builds a plane's levels from the source plane, its rows src_pitch apart; what was lent for it holds zeros after. Refusals 6 to 13.
+pub fn build_plane(
+    frame: &mut [u8],
+    spill: &mut [u8],
+    scratch: &mut [u8],
+    layout: Layout,
+    src: &[u8],
+    src_pitch: usize,
+) -> Tested
+    ensures { λ r. ⌜
+        (answer (tested r) (now (frame .exit)) ≡ buildAnswer (planeNo layout (now (src .entry)) «src_pitch» (now (frame .entry)) (now (spill .entry)) (now (scratch .entry))) layout (now (src .entry)) «src_pitch» (now (frame .entry)))
+        × (answer (tested r) (now (spill .exit)) ≡ lentAfter (planeNo layout (now (src .entry)) «src_pitch» (now (frame .entry)) (now (spill .entry)) (now (scratch .entry))) (now (spill .entry)))
+        × (answer (tested r) (now (scratch .exit)) ≡ lentAfter (planeNo layout (now (src .entry)) «src_pitch» (now (frame .entry)) (now (spill .entry)) (now (scratch .entry))) (now (scratch .entry))) ⌝ }
+{
+    let t = build_tested(
+        layout,
+        src.len(),
+        src_pitch,
+        frame.len(),
+        spill.len(),
+        scratch.len(),
+    );
+    let Tested::Fine = t else {
+        return t;
+    };
+    build_spilled(frame, spill, scratch, layout, src, src_pitch);
+    zero_row(spill);
+    zero_row(scratch);
+    Tested::Fine
+}

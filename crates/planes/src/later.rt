@@ -1,0 +1,85 @@
+// Later levels, each from the level before it or from the source plane: open-svpflow's `reduce`, and the walk over the levels.
+ghost use mathlib.Core.Path.{_≡_};
+ghost use mathlib.Core.List.{_++_};
+ghost use Prim.Native.Nat.{_≤_, _<_};
+ghost use lib.ListN.{length};
+ghost use Rattle.filters.specs.declared.halving.Chosen.the-variants.{Filter};
+ghost use Rattle.filters.specs.Halve.{chosen};
+ghost use Rattle.layouts.specs.Layout.{levelsOf};
+ghost use Rattle.layouts.specs.Room.{Ready};
+ghost use Rattle.planes.specs.Build.{halveLevel, halved};
+use builder::halving::reduce_cubic;
+use builder::halving::reduce_within;
+use builder::separate::reduce_separate;
+use filters::halving::Chosen;
+use filters::halving::ReduceFilter;
+use layouts::layout::Layout;
+use layouts::levels::offset;
+use layouts::levels::region;
+use layouts::margins::is_fused;
+
+fn reduce(
+    filter: ReduceFilter,
+    frame: &mut [u8],
+    spill: &mut [u8],
+    scratch: &mut [u8],
+    layout: Layout,
+    src: &[u8],
+    src_pitch: usize,
+    level: u32,
+)
+    requires { ⌜ Ready layout (length (now src)) «src_pitch» (length (now frame)) (length (now spill)) (length (now scratch)) × (1 ≤ level) × (level < levelsOf layout) ⌝ }
+    ensures { λ r. ⌜ now (frame .exit) ++ now (spill .exit) ≡ halveLevel layout (now (src .entry)) «src_pitch» (length (now (frame .entry))) filter level (now (frame .entry) ++ now (spill .entry)) ⌝ }
+{
+    let opts = layout.opts;
+    let pitch = layout.pitch;
+    let base = offset(layout, level - 1);
+    let target = region(layout, level);
+    if is_fused(layout, level, frame.len()) {
+        reduce_cubic(frame, scratch, base, pitch, target);
+        return;
+    }
+    if opts.full | (level >= 2) {
+        reduce_within(filter, frame, scratch, base, pitch, target);
+        return;
+    }
+    reduce_separate(filter, frame, spill, scratch, src, src_pitch, pitch, target);
+}
+
+fn reduce_each(
+    filter: ReduceFilter,
+    frame: &mut [u8],
+    spill: &mut [u8],
+    scratch: &mut [u8],
+    layout: Layout,
+    src: &[u8],
+    src_pitch: usize,
+)
+    requires { ⌜ Ready layout (length (now src)) «src_pitch» (length (now frame)) (length (now spill)) (length (now scratch)) ⌝ }
+    ensures { λ r. ⌜ now (frame .exit) ++ now (spill .exit) ≡ halved layout (now (src .entry)) «src_pitch» (length (now (frame .entry))) (Filter filter) (now (frame .entry) ++ now (spill .entry)) ⌝ }
+{
+    let opts = layout.opts;
+    let n = opts.naturals();
+    let levels = n.levels;
+    for level in 1..levels {
+        reduce(filter, frame, spill, scratch, layout, src, src_pitch, level);
+    }
+}
+
+pub fn reduce_levels(
+    frame: &mut [u8],
+    spill: &mut [u8],
+    scratch: &mut [u8],
+    layout: Layout,
+    src: &[u8],
+    src_pitch: usize,
+)
+    requires { ⌜ Ready layout (length (now src)) «src_pitch» (length (now frame)) (length (now spill)) (length (now scratch)) ⌝ }
+    ensures { λ r. ⌜ now (frame .exit) ++ now (spill .exit) ≡ halved layout (now (src .entry)) «src_pitch» (length (now (frame .entry))) (chosen (layout .opts .«scale_down»)) (now (frame .entry) ++ now (spill .entry)) ⌝ }
+{
+    let opts = layout.opts;
+    let Chosen::Filter(filter) = ReduceFilter::from_option(opts.scale_down) else {
+        return;
+    };
+    reduce_each(filter, frame, spill, scratch, layout, src, src_pitch);
+}
