@@ -1,10 +1,13 @@
-/* superframe's command line. In order: its help; how the program ends; numbers, flags and the whole line. */
+/* superframe's command line. In order: its help; how the program ends; numbers and flags; where pictures are written; the whole line. */
+#define _GNU_SOURCE /* vasprintf */
 #include <errno.h>
 #include <inttypes.h>
 #include <stdarg.h>
 #include <stdio.h>
 #include <stdlib.h>
 #include <string.h>
+#include <sys/stat.h>
+#include <unistd.h>
 
 #include "command_line.h"
 #include "sillcandle.h"
@@ -30,6 +33,8 @@ static const char help[] =
     "Output:\n"
     "  -o OUT.pgm        the built frame; its rows are the pitch\n"
     "  --view SHEET.pgm  a contact sheet: level 0's planes side by side, the smaller levels below\n"
+    "                    A picture is made beside its place and put there when whole. Where a run makes none, as after a\n"
+    "                    refusal, an older file in its place is removed: it would pass for this run's.\n"
     "  --help, -h        this text\n"
     "\n"
     "Exit status: 0 built; 1 refused, with document 01's number; 2 the command line or a file is not usable.\n";
@@ -48,6 +53,15 @@ void unusable(const char *text, ...) {
 void finish(void) {
     if (fflush(stdout) || ferror(stdout)) unusable("what is printed couldn't be written whole");
     exit(0);
+}
+
+char *printed(const char *form, ...) {
+    char *made;
+    va_list args;
+    va_start(args, form);
+    if (vasprintf(&made, form, args) < 0) unusable("no memory for a name");
+    va_end(args);
+    return made;
 }
 
 static int64_t number(const char *flag, const char *text, int64_t least, int64_t most) {
@@ -81,12 +95,36 @@ static void one_flag(options *o, int flag, const char *value) {
     case PITCH: o->pitch = (uint64_t)number(name, value, 0, INT64_MAX), o->pitch_given = 1; break;
     case SHIFT_X: o->x = (uint64_t)number(name, value, 0, UINT32_MAX); break;
     case SHIFT_Y: o->y = (uint64_t)number(name, value, 0, UINT32_MAX); break;
-    case OUT: o->out = value; break;
-    case VIEW: o->view = value; break;
+    case OUT: o->out.name = value; break;
+    case VIEW: o->view.name = value; break;
     default:
         o->given |= 1u << flag;
         o->set[flag] = flag < SILL_AT_FULL ? (int32_t)number(name, value, INT32_MIN, INT32_MAX) : answer(name, value);
     }
+}
+
+static char *place_of(const char *name) {
+    struct stat there;
+    if (!stat(name, &there)) {
+        if (S_ISDIR(there.st_mode)) unusable("%s: %s", name, strerror(EISDIR));
+        if (access(name, W_OK)) unusable("%s: %s", name, strerror(errno));
+        return S_ISREG(there.st_mode) ? realpath(name, NULL) : NULL;
+    }
+    /* It isn't there yet: its folder has to be. */
+    int why = errno;
+    const char *slash = strrchr(name, '/'), *last = slash ? slash + 1 : name;
+    char *before = printed("%.*s.", (int)(last - name), name), *folder = realpath(before, NULL);
+    if (!folder || !*last) unusable("%s: %s", name, strerror(why));
+    char *place = printed("%s/%s", folder, last);
+    free(before), free(folder);
+    return place;
+}
+
+static void settle(output *o, const char *flag, const struct stat *picture) {
+    struct stat there;
+    if (!o->name) return;
+    o->place = place_of(o->name);
+    if (o->place && !stat(o->place, &there) && there.st_dev == picture->st_dev && there.st_ino == picture->st_ino) unusable("%s: %s would write over the picture itself", o->name, flag);
 }
 
 options command_line(int argc, char **argv) {
@@ -103,6 +141,9 @@ options command_line(int argc, char **argv) {
         one_flag(&o, flag, argv[k]);
     }
     if (!o.in) unusable("which picture? usage: superframe PICTURE.pgm [FLAG VALUE]..; --help says more");
-    if (o.out && o.view && !strcmp(o.out, o.view)) unusable("%s: -o and --view would write the same file", o.out);
+    struct stat picture;
+    if (stat(o.in, &picture)) unusable("%s: %s", o.in, strerror(errno));
+    settle(&o.out, flags[OUT], &picture), settle(&o.view, flags[VIEW], &picture);
+    if (o.out.place && o.view.place && !strcmp(o.out.place, o.view.place)) unusable("%s: -o and --view would write the same file", o.out.name);
     return o;
 }

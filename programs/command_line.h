@@ -8,23 +8,35 @@
 enum { REFUSED = 1, UNUSABLE = 2, USABLE = 3 };
 
 #ifdef __GNUC__
-#define ENDS(text, args) __attribute__((format(printf, text, args), noreturn))
+#define PRINTS(text, args) __attribute__((format(printf, text, args)))
+#define ENDS __attribute__((noreturn))
 #else
-#define ENDS(text, args)
+#define PRINTS(text, args)
+#define ENDS
 #endif
+
+/* A picture to be written. Its name is as given, NULL where none is asked for; its place is where that leads through links, NULL where it is no regular file: a device or a pipe is written as it stands. */
+typedef struct {
+    const char *name;
+    char *place;
+} output;
 
 typedef struct {
     uint32_t given;
     int32_t set[7];
     uint64_t pitch, x, y;
     int pitch_given;
-    const char *in, *out, *view;
+    const char *in;
+    output out, view;
 } options;
 
 options command_line(int argc, char **argv);
 
+/* What printf would print, as a text of its own. */
+PRINTS(1, 2) char *printed(const char *form, ...);
+
 /* Says what can't be used, and ends the program. */
-ENDS(1, 2) void unusable(const char *text, ...);
+ENDS PRINTS(1, 2) void unusable(const char *text, ...);
 
 /* Ends the program as done, if all that it printed went out. */
 void finish(void);

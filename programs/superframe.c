@@ -1,11 +1,14 @@
 /* superframe: builds the super frame of a picture, shows it, and says what was built. It works through the library alone (include/sillcandle.h); its command line is in command_line.c.
    In order: refusals; reading a PGM; the frame; what is printed; the pictures that are written. */
+#define _GNU_SOURCE /* mkstemp */
 #include <errno.h>
 #include <inttypes.h>
 #include <stdarg.h>
 #include <stdio.h>
 #include <stdlib.h>
 #include <string.h>
+#include <sys/stat.h>
+#include <unistd.h>
 
 #include "command_line.h"
 #include "sillcandle.h"
@@ -35,7 +38,7 @@ static const char *sentence(uint32_t number) {
     return number < sizeof all / sizeof *all && all[number] ? all[number] : "a number that isn't known here";
 }
 
-ENDS(2, 3) static void refused(uint32_t number, const char *given, ...) {
+ENDS PRINTS(2, 3) static void refused(uint32_t number, const char *given, ...) {
     va_list args;
     va_start(args, given);
     fprintf(stderr, "superframe: refused, %" PRIu32 ": %s", number, sentence(number));
@@ -199,15 +202,41 @@ static void print_all(const frame *f, const options *o, const picture *p) {
     print_layout(f);
 }
 
-/* The pictures. */
-static void write_pgm(const char *name, size_t width, size_t height, const uint8_t *bytes) {
-    FILE *f = fopen(name, "wb");
-    if (!f) unusable("%s: %s", name, strerror(errno));
+/* The pictures. Each is this run's, whole, or isn't there: it is made beside its place and put there when whole, and where the run ends before that, an older file goes, since it would pass for this run's. */
+static options asked;
+static char *part;
+
+static void withdraw(void) {
+    const output *all[] = {&asked.out, &asked.view};
+    if (part) unlink(part);
+    for (int k = 0; k < 2; k++) {
+        if (!all[k]->place || access(all[k]->place, F_OK)) continue;
+        if (unlink(all[k]->place)) fprintf(stderr, "superframe: %s: this run made none, and an older one couldn't be removed: %s\n", all[k]->name, strerror(errno));
+        else fprintf(stderr, "superframe: %s: this run made none, so an older one was removed\n", all[k]->name);
+    }
+}
+
+/* A new file beside a place, with the rights that fopen gives. */
+static FILE *beside(const char *place) {
+    part = printed("%s.XXXXXX", place);
+    int file = mkstemp(part);
+    if (file < 0) return NULL;
+    mode_t kept = umask(0);
+    umask(kept);
+    fchmod(file, 0666 & ~kept);
+    return fdopen(file, "wb");
+}
+
+static void write_pgm(output *to, size_t width, size_t height, const uint8_t *bytes) {
+    FILE *f = to->place ? beside(to->place) : fopen(to->name, "wb");
+    if (!f) unusable("%s: %s", to->name, strerror(errno));
     fprintf(f, "P5\n%zu %zu\n255\n", width, height);
     fwrite(bytes, 1, width * height, f);
     int bad = ferror(f);
-    if (fclose(f) || bad) unusable("%s: it couldn't be written whole", name);
-    printf("wrote     %s, %zux%zu\n", name, width, height);
+    if (fclose(f) || bad || (part && rename(part, to->place))) unusable("%s: it couldn't be written whole", to->name);
+    free(part), free(to->place);
+    part = to->place = NULL;
+    printf("wrote     %s, %zux%zu\n", to->name, width, height);
 }
 
 enum { GAP = 8, GROUND = 40 };
@@ -225,7 +254,7 @@ static void show(const frame *f, sheet *s, size_t level, size_t plane, size_t le
 }
 
 /* Level 0's planes in pel rows of pel, as their samples lie between the picture's; the smaller levels in a row below. */
-static void view(const frame *f, const char *name) {
+static void view(const frame *f, output *to) {
     size_t across = planes(f, 0) ? (size_t)f->record[SILL_AT_PEL] : 0, width = f->regions[SILL_REGION_WIDTH] + GAP, height = f->regions[SILL_REGION_HEIGHT] + GAP;
     sheet s = {.width = GAP + across * width, .height = GAP + across * height};
     size_t below = s.height, smaller = GAP;
@@ -239,20 +268,21 @@ static void view(const frame *f, const char *name) {
         show(f, &s, k, 0, left, below);
         left += f->regions[SILL_REGION_WIDTH + k] + GAP;
     }
-    write_pgm(name, s.width, s.height, s.bytes);
+    write_pgm(to, s.width, s.height, s.bytes);
     free(s.bytes);
 }
 
 int main(int argc, char **argv) {
-    options o = command_line(argc, argv);
-    picture p = opened(o.in);
-    frame f = laid_out(&o, &p);
-    uint8_t *src = samples(&p, o.in);
+    asked = command_line(argc, argv);
+    picture p = opened(asked.in);
+    atexit(withdraw);
+    frame f = laid_out(&asked, &p);
+    uint8_t *src = samples(&p, asked.in);
     build(&f, &p, src);
-    print_all(&f, &o, &p);
-    if (!f.end && (o.out || o.view)) puts("nothing is stored of this plane, so no picture is written");
-    if (f.end && o.out) write_pgm(o.out, f.pitch, f.end / f.pitch, f.bytes);
-    if (f.end && o.view) view(&f, o.view);
+    print_all(&f, &asked, &p);
+    if (!f.end && (asked.out.name || asked.view.name)) puts("nothing is stored of this plane, so no picture is written");
+    if (f.end && asked.out.name) write_pgm(&asked.out, f.pitch, f.end / f.pitch, f.bytes);
+    if (f.end && asked.view.name) view(&f, &asked.view);
     free(src), free(f.bytes);
     finish();
 }
