@@ -1,12 +1,18 @@
-//! The library from Rust: a safe wrapper, `Record` and `Plane`, and a small program over it. scripts/library compiles and runs it; by hand, on x86-64:
-//!     rustc --edition 2024 examples/rust/sillcandle.rs -L target/staticlib
+//! The library from Rust: a safe wrapper and a small program over it. scripts/library compiles and runs it; by hand, on x86-64:
+//!     rustc --edition 2024 examples/rust/sillcandle.rs -L target/staticlib -o out/sillcandle
+//! In order: the calls; refusals; settings, `Record` and its longhand; `Word` and what it tells; `Layout` and `Plane`; the program.
 //! The wrapper holds what the header asks of a caller: counts are the slices' own, and slices that the compiler lends can't overlap.
+
+use std::error::Error;
+use std::fmt;
 
 mod sill {
     #[link(name = "sillcandle", kind = "static")]
     unsafe extern "C" {
         pub fn sill_check(given: u32, pel: i32, gpu: i32, down: i32, up: i32, full: i32, rc: i32, lean: i32, width: i32, height: i32, record: *mut i32, count: usize) -> u32;
         pub fn sill_pack_data(record: *const i32, count: usize, word: *mut u64, word_count: usize) -> u32;
+        pub fn sill_read_word(word: u64, told: *mut i32, told_count: usize) -> u32;
+        pub fn sill_prepare_alike(a: u64, b: u64) -> u32;
         pub fn sill_longhand_write(record: *const i32, count: usize, bytes: *mut u8, bytes_count: usize) -> u32;
         pub fn sill_longhand_read(bytes: *const u8, bytes_count: usize, record: *mut i32, count: usize, after: *mut usize, after_count: usize) -> u32;
         pub fn sill_written_end(record: *const i32, count: usize, x_shift: u32, y_shift: u32, pitch: usize, end: *mut usize, end_count: usize) -> u32;
@@ -16,13 +22,60 @@ mod sill {
     }
 }
 
-/// The number of documents 01 and 02, which is never 0.
-#[derive(Clone, Copy, Debug, PartialEq, Eq)]
-pub struct Refused(pub u32);
+/// Each line is a number, a name and a sentence of the header; scripts/library holds them to it.
+macro_rules! refusals {
+    ($($number:literal $name:ident $sentence:literal)*) => {
+        /// Why a call gave nothing, by the numbers and names of the header.
+        #[derive(Clone, Copy, Debug, PartialEq, Eq)]
+        pub enum Refused {
+            $(#[doc = $sentence] $name = $number,)*
+        }
 
-fn done(number: u32) -> Result<(), Refused> {
-    if number == 0 { Ok(()) } else { Err(Refused(number)) }
+        fn done(number: u32) -> Result<(), Refused> {
+            match number {
+                0 => Ok(()),
+                $($number => Err(Refused::$name),)*
+                _ => unreachable!("no call of the library gives {number}"),
+            }
+        }
+
+        impl fmt::Display for Refused {
+            fn fmt(&self, f: &mut fmt::Formatter) -> fmt::Result {
+                let sentence = match self {
+                    $(Self::$name => $sentence,)*
+                };
+                write!(f, "refused, {}: {sentence}", *self as u32)
+            }
+        }
+    };
 }
+
+refusals! {
+    1 BadPel "pel isn't 1, 2 or 4"
+    2 BadGpu "gpu isn't 0, 1 or 2"
+    3 BadFull "pel 2 or 4, and not full"
+    4 BadLean "lean, and pel above 2, gpu not 1, not full or down not 4"
+    5 BadSize "width or height outside 1 to 16,384"
+    6 NoRecord "a record handed in is no accepted record"
+    7 BadShift "a shift above 1"
+    8 BadPitch "pitch below max(1, least) or above 32,768; least is level 0's width if full, else level 1's"
+    9 BadSourcePitch "source pitch below max(1, level 0's width) or above 32,768"
+    10 BadSource "source shorter than (h - 1) * source pitch + w; 0 bytes suffice if w or h is 0"
+    11 BadFrame "frame shorter than the written end"
+    12 BadSpill "spill shorter than its need"
+    13 BadScratch "scratch shorter than 16 * (pitch + 16)"
+    14 BadLevels "packing: more than 63 levels"
+    15 NoRoom "a slice lent for the answer is shorter than the answer; longhand: the bytes end before the length field or the record does"
+    16 NoKind "longhand: the kind isn't known"
+    17 BadLength "longhand: length isn't the kind's, or is below 2"
+    18 BadContents "longhand: contents aren't an accepted record, or a spare flag is set"
+    19 NoRow "no such level, plane or row is stored"
+    20 NoCode "the word is no code"
+    21 NoDown "halving filter isn't told"
+    22 NoUp "upscale filter isn't told"
+}
+
+impl Error for Refused {}
 
 /// Settings, each present or absent.
 #[derive(Clone, Copy, Default)]
@@ -40,11 +93,26 @@ pub struct Settings {
 #[derive(Clone, Copy, Debug, PartialEq, Eq)]
 pub struct Record([i32; 10]);
 
+/// What a record has. None is made from it: only the check and a longhand give a record.
+#[derive(Clone, Copy, Debug, PartialEq, Eq)]
+pub struct Fields {
+    pub pel: i32,
+    pub gpu: i32,
+    pub down: i32,
+    pub up: i32,
+    pub full: bool,
+    pub rc: bool,
+    pub lean: bool,
+    pub levels: i32,
+    pub width: i32,
+    pub height: i32,
+}
+
 /// What stands at the front of some bytes, and the place after it.
 #[derive(Clone, Copy, Debug, PartialEq, Eq)]
 pub enum Longhand {
     Record { record: Record, after: usize },
-    /// A kind that isn't known, which is number 16.
+    /// A kind that isn't known: here `NoKind` is no refusal, since a reader can go on after it.
     Unknown { after: usize },
 }
 
@@ -60,11 +128,16 @@ impl Record {
         Ok(Self(record))
     }
 
-    pub fn word(&self) -> Result<u64, Refused> {
+    pub fn fields(&self) -> Fields {
+        let [pel, gpu, down, up, full, rc, lean, levels, width, height] = self.0;
+        Fields { pel, gpu, down, up, full: full != 0, rc: rc != 0, lean: lean != 0, levels, width, height }
+    }
+
+    pub fn word(&self) -> Result<Word, Refused> {
         let mut word = 0;
         // SAFETY: a record of ten, and one number lent for the answer.
         done(unsafe { sill::sill_pack_data(self.0.as_ptr(), self.0.len(), &mut word, 1) })?;
-        Ok(word)
+        Ok(Word(word))
     }
 
     pub fn longhand(&self) -> Result<[u8; 21], Refused> {
@@ -78,11 +151,54 @@ impl Record {
         let (mut record, mut after) = ([0; 10], 0);
         // SAFETY: the bytes' own count, and ten numbers and one lent for the answers.
         let number = unsafe { sill::sill_longhand_read(bytes.as_ptr(), bytes.len(), record.as_mut_ptr(), record.len(), &mut after, 1) };
-        if number == 16 {
-            return Ok(Longhand::Unknown { after });
+        match done(number) {
+            Ok(()) => Ok(Longhand::Record { record: Self(record), after }),
+            Err(Refused::NoKind) => Ok(Longhand::Unknown { after }),
+            Err(why) => Err(why),
         }
-        done(number)?;
-        Ok(Longhand::Record { record: Self(record), after })
+    }
+}
+
+/// A word, as a report stores it.
+#[derive(Clone, Copy, Debug, PartialEq, Eq)]
+pub struct Word(pub u64);
+
+/// What a word tells of the one build that it names. A filter that has no part in the build is `None`.
+#[derive(Clone, Copy, Debug, PartialEq, Eq)]
+pub struct Description {
+    pub width: i32,
+    pub height: i32,
+    pub pel: i32,
+    pub levels: i32,
+    pub gpu: i32,
+    pub full: bool,
+    pub rc: bool,
+    pub lean: bool,
+    pub down: Option<i32>,
+    pub up: Option<i32>,
+}
+
+impl Word {
+    /// `NoCode`, `NoDown` or `NoUp` where it doesn't name one build.
+    pub fn read(self) -> Result<Description, Refused> {
+        let mut told = [0; 12];
+        // SAFETY: twelve numbers lent for the answer.
+        done(unsafe { sill::sill_read_word(self.0, told.as_mut_ptr(), told.len()) })?;
+        let [width, height, pel, levels, gpu, full, rc, lean, down_matters, down, up_matters, up] = told;
+        let filter = |matters, value| (matters != 0).then_some(value);
+        Ok(Description { width, height, pel, levels, gpu, full: full != 0, rc: rc != 0, lean: lean != 0, down: filter(down_matters, down), up: filter(up_matters, up) })
+    }
+
+    /// Whether both name one build and agree in all bits but those of rc and lean.
+    pub fn prepares_alike(self, other: Self) -> bool {
+        // SAFETY: nothing is lent.
+        unsafe { sill::sill_prepare_alike(self.0, other.0) == 1 }
+    }
+}
+
+impl fmt::Display for Word {
+    fn fmt(&self, f: &mut fmt::Formatter) -> fmt::Result {
+        write!(f, "{:016x}", self.0)
     }
 }
 
@@ -142,25 +258,41 @@ impl Plane {
     }
 }
 
-fn main() {
+fn main() -> Result<(), Box<dyn Error>> {
     let settings = Settings { pel: Some(1), ..Settings::default() };
-    let record = Record::check(settings, 8, 8).expect("pel 1 at 8x8");
-    println!("word {:016x}", record.word().expect("an accepted record"));
-    let mut longhand = record.longhand().expect("an accepted record");
+    let record = Record::check(settings, 8, 8)?;
+    println!("{:?}", record.fields());
+    let word = record.word()?;
+    println!("word {word}: {:?}", word.read()?);
+    let marked = Record::check(Settings { rc: Some(true), ..settings }, 8, 8)?.word()?;
+    println!("word {marked}, which differs in rc: prepares alike: {}", word.prepares_alike(marked));
+    for stored in [0x0000040200400030, 0x0300440100400030, 0x0001050200400030].map(Word) {
+        match stored.read() {
+            Ok(told) => println!("word {stored}: {told:?}"),
+            Err(why) => println!("word {stored}: {why}"),
+        }
+    }
+    // One level: down has no part in the build, and the words differ in the bit that says whether it is 4.
+    let (four, other) = (Word(0x0001010200040004), Word(0x0001410200040004));
+    println!("words {four} and {other}: equal descriptions: {}, prepare alike: {}", four.read()? == other.read()?, four.prepares_alike(other));
+
+    let mut longhand = record.longhand()?;
     println!("longhand {longhand:?}");
     assert_eq!(Record::read_longhand(&longhand), Ok(Longhand::Record { record, after: 21 }));
-    assert_eq!(Record::read_longhand(&longhand[..20]), Err(Refused(15)));
+    assert_eq!(Record::read_longhand(&longhand[..20]), Err(Refused::NoRoom));
     longhand[4] = 2;
     println!("kind 2: {:?}", Record::read_longhand(&longhand));
     assert_eq!(Record::read_longhand(&longhand), Ok(Longhand::Unknown { after: 21 }));
+
     let source: Vec<u8> = (0..64).map(|i| 3 * i).collect();
-    let plane = Layout { record, shifts: (0, 0), pitch: 16 }.build(&source, 8).expect("a source of 64 bytes");
+    let plane = Layout { record, shifts: (0, 0), pitch: 16 }.build(&source, 8)?;
     for y in 0.. {
         let Ok(row) = plane.row(1, 0, y) else { break };
         println!("level 1, row {y}: {row:?}");
     }
-    let refused = Record::check(Settings { pel: Some(3), ..settings }, 8, 8);
-    println!("pel 3: {refused:?}");
-    assert_eq!(refused, Err(Refused(1)));
-    assert_eq!(Layout { record, shifts: (0, 0), pitch: 16 }.build(&source[1..], 8).err(), Some(Refused(10)));
+    assert_eq!(Layout { record, shifts: (0, 0), pitch: 16 }.build(&source[1..], 8).err(), Some(Refused::BadSource));
+    if let Err(why) = Record::check(Settings { pel: Some(3), ..settings }, 8, 8) {
+        println!("pel 3: {why} ({why:?})");
+    }
+    Ok(())
 }
