@@ -1,5 +1,5 @@
 -- Laws of refining: a row stored in the list that it is read of; a row of a pair, and the rows around one; planes that lie in a frame; stages that stay inside it; the stages one after the other; last the table of pairs. Assumes nothing.
-use mathlib.Core.Bool.{Bool, true, false, _&&_, _||_}
+use mathlib.Core.Bool.{Bool, true, _&&_, _||_}
 use mathlib.Core.Logic.{_⊎_, inl, inr, ⊎-elim}
 use mathlib.Core.Path.{_≡_, refl, sym, ap, _∙_, subst}
 use mathlib.Core.List.{List, [], _∷_, _++_, append-assoc}
@@ -7,11 +7,11 @@ use Prim.Native.Nat.{ℕ, zero, suc, _+_, _*_, _-_, _≤_, _<_}
 use native.Mathlib.Nat.{mul-le-mul-right, add-mul, le-of-suc-le-suc, not-suc-le-zero}
 use native.Mathlib.Numerals.{add-one}
 use native.Mathlib.Omega.{arith}
-use lib.Dec.{T, leb, leb→le}
+use lib.Dec.{leb}
 use lib.ListN.{length, getD, take, drop, set, length-append, length-drop, length-set, take-append-drop}
 use lib.Seq.{drop-cons, set-at, append-snoc, length-take-le}
 use borrow.Author.Tests.{leb-true}
-use Rattle.settings.proofs.Tests.{or-cases}
+use Rattle.settings.proofs.Tests.{and-left, and-right, or-cases}
 use Rattle.filters.specs.Row.{tab, meanOf, meansOf}
 use Rattle.filters.specs.Refine.{halfHorizontal, halfVertical}
 use Rattle.filters.specs.declared.half_pel.HalfPel.{HalfPel}
@@ -273,42 +273,35 @@ pub quarter-made : (i : Interp) (q : Pair) (T L R : ℕ) (c : List ℕ) → T �
 unfolding quarter
 quarter-made i q T L R c eT eL eR = rw (eT, eL, eR)
 
-and-left : (a b : Bool) → T (a && b) → T a
-and-left true b t = tt
-and-left false b t = t
+-- a test of each pair of a table
+abbrev pub every : (Pair → Bool) → List Pair → Bool
+every t [] = true
+every t (q ∷ qs) = t q && every t qs
 
-and-right : (a b : Bool) → T (a && b) → T b
-and-right true b t = t
-and-right false b t = absurd t
+pub every-at : (t : Pair → Bool) (qs : List Pair) → every t qs ≡ true → (k : ℕ) → k < length qs → t (getD qs k (pairOf 0 0 0 0 0)) ≡ true
+every-at t [] e k h = absurd (not-suc-le-zero h)
+every-at t (q ∷ qs) e zero h = and-left (t q) (every t qs) e
+every-at t (q ∷ qs) e (suc k) h = every-at t qs (and-right (t q) (every t qs) e) k (le-of-suc-le-suc h)
 
--- `Quarter` as a test, and of each row of the table
+-- `Quarter` as such a test
 abbrev isQuarter : Pair → Bool
 isQuarter q = leb (q .target) 15 && (leb (q .left) 14 && (leb (q .right) 15 && (leb (q .across) 1 && leb (q .below) 1)))
 
-is-quarter : (q : Pair) → T (isQuarter q) → Quarter q
-is-quarter q t =
-    let l = and-right (leb (q .target) 15) _ t in
+is-quarter : (q : Pair) → isQuarter q ≡ true → Quarter q
+is-quarter q e =
+    let l = and-right (leb (q .target) 15) _ e in
     let r = and-right (leb (q .left) 14) _ l in
     let a = and-right (leb (q .right) 15) _ r in
     record {
-      target = leb→le (q .target) 15 (and-left (leb (q .target) 15) _ t);
-      left = leb→le (q .left) 14 (and-left (leb (q .left) 14) _ l);
-      right = leb→le (q .right) 15 (and-left (leb (q .right) 15) _ r);
-      across = leb→le (q .across) 1 (and-left (leb (q .across) 1) _ a);
-      below = leb→le (q .below) 1 (and-right (leb (q .across) 1) _ a);
+      target = leb-true (q .target) 15 (and-left (leb (q .target) 15) _ e);
+      left = leb-true (q .left) 14 (and-left (leb (q .left) 14) _ l);
+      right = leb-true (q .right) 15 (and-left (leb (q .right) 15) _ r);
+      across = leb-true (q .across) 1 (and-left (leb (q .across) 1) _ a);
+      below = leb-true (q .below) 1 (and-right (leb (q .across) 1) _ a);
     }
 
-abbrev allQuarters : List Pair → Bool
-allQuarters [] = true
-allQuarters (q ∷ qs) = isQuarter q && allQuarters qs
-
-all-at : (qs : List Pair) → T (allQuarters qs) → (k : ℕ) → k < length qs → T (isQuarter (getD qs k (pairOf 0 0 0 0 0)))
-all-at [] t k h = absurd (not-suc-le-zero h)
-all-at (q ∷ qs) t zero h = and-left (isQuarter q) (allQuarters qs) t
-all-at (q ∷ qs) t (suc k) h = all-at qs (and-right (isQuarter q) (allQuarters qs) t) k (le-of-suc-le-suc h)
-
 pub table-row : (k : ℕ) → k < 12 → Quarter (getD pairs k (pairOf 0 0 0 0 0))
-table-row k h = is-quarter (getD pairs k (pairOf 0 0 0 0 0)) (all-at pairs tt k h)
+table-row k h = is-quarter (getD pairs k (pairOf 0 0 0 0 0)) (every-at isQuarter pairs refl k h)
 
 -- walked by index
 pub table-walked : (i : Interp) (c : List ℕ) → steps (λ k. quarter i (getD pairs k (pairOf 0 0 0 0 0))) 12 c ≡ foldPairs (quarter i) pairs c

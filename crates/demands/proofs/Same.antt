@@ -1,6 +1,6 @@
 -- Settings that don't matter leave no trace: records alike but for them build alike, so that a word that reading takes for one build names one. Last, that the filters which reading counts are those that a build takes. Assumes nothing.
 use mathlib.Core.Path.{_≡_, refl, sym, ap, _∙_}
-use mathlib.Core.Logic.{_⊎_, inl, inr, ⊎-elim}
+use mathlib.Core.Logic.{⊎-elim}
 use mathlib.Core.Bool.{Bool, true, false, cond, not, _&&_, _||_}
 use mathlib.Core.List.{List}
 use Prim.Native.Nat.{ℕ, zero, suc, _+_, _-_, _≤_}
@@ -13,8 +13,9 @@ use Rattle.settings.specs.declared.super_opts.SuperOpts.{SuperOpts}
 use Rattle.settings.specs.Numbers.{isNat, isI32, total}
 use Rattle.settings.specs.Check.{accepted, pelOf, levelCount}
 use Rattle.settings.specs.Reading.{candidate, readNo, downMatters, upMatters, Packs, halvingOf, upscaleOf}
+use Rattle.settings.proofs.Tests.{and-off, or-yes, or-right}
 use Rattle.settings.proofs.Accepted.{fine, is-nat-pos}
-use Rattle.settings.proofs.Told.{filtered, filtered-packs, four-or-not, canon-accepted, canon-four, packs-canon, code-packs, read-case, at-0, halving as halvingOpen, upscale as upscaleOpen, or-right}
+use Rattle.settings.proofs.Told.{filtered, filtered-packs, four-or-not, canon-accepted, canon-four, packs-canon, code-packs, read-case, at-0, halving as halvingOpen, upscale as upscaleOpen}
 use Rattle.filters.specs.declared.halving.ReduceFilter.{ReduceFilter}
 use Rattle.filters.specs.declared.halving.ReduceFilter.the-variants.{Average, Bilinear, Quadratic, Cubic}
 use Rattle.filters.specs.declared.halving.Chosen.{Chosen}
@@ -24,7 +25,6 @@ use Rattle.filters.specs.declared.half_pel.Upscale.{Upscale}
 use Rattle.filters.specs.declared.half_pel.Upscale.the-variants.{Means, Kernel}
 use Rattle.filters.specs.Halve.{chosen}
 use Rattle.filters.specs.Refine.{upscale}
-use Rattle.filters.proofs.Tests.{or-yes}
 use Rattle.layouts.specs.declared.layout.Layout.{Layout}
 use Rattle.layouts.specs.Storing.{steps}
 use Rattle.layouts.specs.Layout.{levelsOf, storedAt, offsetAt, spillNeed, scratchNeed}
@@ -101,10 +101,6 @@ told-down v r p = ap (λ (q : SuperOpts). downMatters q && not (isNat (candidate
 
 pub told-up : (v : ℕ) (r : SuperOpts) → Packs v r → upscaleOpen (candidate v) ≡ upscaleOpen r
 told-up v r p = ap upscaleOpen (packs-canon v r p)
-
-and-off : (a b : Bool) → (a && b) ≡ false → (a ≡ false) ⊎ (b ≡ false)
-and-off true b e = inr e
-and-off false b e = inl refl
 
 -- ---- where the word doesn't leave a filter open, records alike but for it leave the same
 module _ (v : ℕ) (r : SuperOpts) (p : Packs v r) (g : Given) where

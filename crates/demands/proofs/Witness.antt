@@ -16,9 +16,8 @@ use Rattle.settings.specs.declared.super_opts.SuperOpts.{SuperOpts}
 use Rattle.settings.specs.Numbers.{total, isNat, toNat}
 use Rattle.settings.specs.Sizes.{reduced}
 use Rattle.settings.specs.Check.{accepted, pelOf, lumaW, lumaH, levelCount}
-use Rattle.settings.proofs.Tests.{and-left, and-right}
+use Rattle.settings.proofs.Tests.{and-left, and-right, or-none, clash}
 use Rattle.settings.proofs.Accepted.{fine}
-use Rattle.settings.proofs.Told.{clash}
 use Rattle.filters.specs.declared.halving.ReduceFilter.the-variants.{Average}
 use Rattle.filters.specs.declared.halving.Chosen.{Chosen}
 use Rattle.filters.specs.declared.halving.Chosen.the-variants.{Filter, NoFilter}
@@ -263,10 +262,6 @@ module _ (x : SuperOpts) (good : accepted x ≡ true) (lv : 1 ≤ levelCount x) 
         (cases (Has t1 255) (x .full || false)
         (λ e. stored-first Average (offsetAt q 0) P (regionAt q 1) first (omega (arith, h1-some)) (omega (arith, w1-some)) (omega arith) long-first (subst (λ (b : ℕ). Four b P first) (sym (offset-first q)) (four-first (or-none (x .full) e))))
         (λ e. source-first Average S W P (regionAt q 1) first (omega (arith, h1-some)) (omega (arith, w1-some)) (omega arith) long-first source-four))
-      where
-        or-none : (t : Bool) → (t || false) ≡ true → t ≡ true
-        or-none true e = refl
-        or-none false e = e
 
     averaged : isNat (x .«scale_down») 4 ≡ false → Has t1 255 (halved q S W len (Filter Average) first)
     unfolding halved

@@ -14,7 +14,7 @@ use Rattle.settings.specs.Answers.{Answer, answer, number}
 use Rattle.settings.specs.Numbers.{refuse, _then_, total}
 use Rattle.settings.specs.Sizes.{reduced}
 use Rattle.settings.specs.Check.{accepted, recordNo, lumaW, lumaH, pelOf}
-use Rattle.settings.proofs.Tests.{or-false-left, or-false-right}
+use Rattle.settings.proofs.Tests.{or-false-left, or-false-right, cond-le}
 use Rattle.settings.proofs.Refusals.{then-first, then-rest, refuse-not}
 use Rattle.settings.proofs.Heights.{prod-le, reduced-le, total-le, total-suc}
 use Rattle.settings.proofs.Known.{given, number-then}
@@ -126,10 +126,6 @@ pub stored-first : (q : Layout) (l : ℕ) → l ≡ 0 → storedAt q l ≡ cond 
 stored-first q l e = ap (storedAt q) e
 
 -- ---- sizes are small
-cond-le : (t : Bool) (a n : ℕ) → a ≤ n → cond t a 0 ≤ n
-cond-le true a n h = h
-cond-le false a n h = omega arith
-
 module _ (q : Layout) (a : Allowed q) where
   pub height-le : (l : ℕ) → heightAt q l ≤ mostSide
   height-le l = omega (arith, div-le-self (reduced (lumaH (q .opts)) l) (2 ^ q .«y_shift»), reduced-le (lumaH (q .opts)) l, within (q .opts) (a .good) .height)

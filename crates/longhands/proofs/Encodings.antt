@@ -14,8 +14,7 @@ use Rattle.settings.specs.declared.super_opts.SuperOpts.{SuperOpts}
 use Rattle.settings.specs.Numbers.{isI32, refuse, _then_}
 use Rattle.settings.specs.Check.{accepted}
 use Rattle.settings.specs.Answers.{Answer, answer}
-use Rattle.settings.proofs.Tests.{and-left, and-right, or-false-left, or-false-right}
-use Rattle.settings.proofs.Integers.{yes-no}
+use Rattle.settings.proofs.Tests.{and-left, and-right, or-false-left, or-false-right, yes-no}
 use Rattle.settings.proofs.Refusals.{then-first, then-rest, refuse-not}
 use Rattle.settings.proofs.Known.{number-of}
 use Rattle.longhands.specs.declared.longhand.Longhand.{Longhand}

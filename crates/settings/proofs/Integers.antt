@@ -11,6 +11,7 @@ use mir.Syntax.{w32}
 use mir.Val.{Fits, SFits, ofZ, toZ}
 use mir.Facts.{toZ-ofZ, toZ-pos}
 use Rattle.settings.specs.Numbers.{isNat, toNat, isI32, bitsOf, ofBits}
+use Rattle.settings.proofs.Tests.{yes-no}
 
 -- the integer that the bits of z are: z
 pub same : (z : ℤ) → SFits w32 z → toZ w32 (ofZ w32 z) ≡ z
@@ -39,9 +40,6 @@ is-by-bits z n fit lt = is-go z n (eqb (ofZ w32 z) n) fit lt refl
 -- what `natural` gives of a field
 pub counts : (z : ℤ) (n : ℕ) → SFits w32 z → n ≡ toNat (toZ w32 (ofZ w32 z)) → n ≡ toNat z
 counts z n fit e = e ∙ ap toNat (same z fit)
-
-pub yes-no : true ≡ false → ⊥
-yes-no e = let z : _≡_ {A = ℕ} 0 1 = cc in omega arith
 
 pub never : (n : ℕ) → n < 0 → ⊥
 never n h = omega arith

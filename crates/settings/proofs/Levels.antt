@@ -8,7 +8,7 @@ use native.Mathlib.Numerals.{add-one}
 use lib.Dec.{leb}
 use borrow.Author.Tests.{le-leb, lt-leb, leb-true}
 use Rattle.settings.specs.Sizes.{reduce, reduced, levelsIn, levelsOf}
-use Rattle.settings.proofs.Tests.{and-no}
+use Rattle.settings.proofs.Tests.{and-no, cond-le}
 
 pub reduced-next : (d n : ℕ) → reduced d (n + 1) ≡ reduce (reduced d n)
 unfolding reduced
@@ -42,10 +42,6 @@ levels-more (suc w) h a b = first ∙ ap suc (enough w (reduce (suc w)) (reduce 
   where
     first : levelsOf (suc w) h ≡ suc (levelsIn w (reduce (suc w)) (reduce h))
     first = rw (le-leb 4 (suc w) a, le-leb 4 h b)
-
-cond-le : (t : Bool) (a n : ℕ) → a ≤ n → cond t a 0 ≤ n
-cond-le true a n h = h
-cond-le false a n h = omega arith
 
 pub levels-within : (k w h : ℕ) → levelsIn k w h ≤ k
 unfolding levelsIn

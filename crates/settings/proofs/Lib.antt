@@ -1,5 +1,5 @@
 -- What is proved of the definitions of specs/ and used by the proofs of the functions, in the order in which one leans on the other:
---     Tests      `&&`, `||`, `not`
+--     Tests      `&&`, `||`, `not`, a choice by a test, and tests that contradict each other
 --     Integers   an i32 by its bits
 --     Refusals   a row of refusals that gives none
 --     Levels     levels of a size

@@ -7,7 +7,7 @@ use Prim.Native.Nat.{ℕ, _≤_, _<_, _^_}
 use native.Mathlib.Omega.{arith}
 use lib.Dec.{eqb}
 use lib.IntN.{ℤ, pos}
-use borrow.Author.Tests.{eqb-true, eq-eqb, lt-ltb, le-ltb}
+use borrow.Author.Tests.{not-true, eqb-true, eq-eqb, lt-ltb, le-ltb}
 use Rattle.settings.specs.declared.super_opts.SuperOpts.{SuperOpts}
 use Rattle.settings.specs.Limits.{mostSide, mostLevels, mostPacked}
 use Rattle.settings.specs.Numbers.{isNat, toNat, isI32, refuse, _then_}
@@ -15,11 +15,10 @@ use Rattle.settings.specs.Check.{settingsNo, levelCount, accepted, Recor
 use Rattle.settings.specs.Word.{wordOf, packNo}
 use Rattle.settings.specs.Reading.{isSet, candidate, upMatters, downMatters, isCode, readNo, tellIf, describe, Packs, halvingOf, upscaleOf, HalvingOpen, UpscaleOpen}
 use Rattle.settings.specs.Answers.{Answer, answer, packAnswer, Returns}
-use Rattle.settings.proofs.Tests.{and-left, and-right}
-use Rattle.settings.proofs.Integers.{yes-no}
+use Rattle.settings.proofs.Tests.{and-left, and-right, or-yes, or-right, not-not, cond-not, clash, false-by, true-by}
 use Rattle.settings.proofs.Accepted.{is-nat-pos, Fine, fine, fine-accepted, sound, within, levels-most, pos-pel, pos-gpu, pos-side, pos-levels, accepted-exact}
 use Rattle.settings.proofs.Known.{given}
-use Rattle.settings.proofs.Words.{bit-back, not-not, small, word-height, word-width, word-pel, word-levels, word-other, word-lean, word-gpu, word-rc, word-part}
+use Rattle.settings.proofs.Words.{bit-back, small, word-height, word-width, word-pel, word-levels, word-other, word-lean, word-gpu, word-rc, word-part}
 
 -- ---- the record that a word spells
 -- r with other filters
@@ -41,10 +40,6 @@ filtered r down up =
 -- down told as 4 or not, up not told
 abbrev pub canon : SuperOpts → SuperOpts
 canon r = filtered r (cond (isNat (r .«scale_down») 4) (pos 4) (pos 0)) (pos 0)
-
-cond-not : (t : Bool) (a b : ℤ) → cond (not t) a b ≡ cond t b a
-cond-not true a b = refl
-cond-not false a b = refl
 
 pub decoded : (r : SuperOpts) → accepted r ≡ true → candidate (wordOf r) ≡ canon r
 unfolding candidate
@@ -72,15 +67,11 @@ pub four-or-not : (t : Bool) → isNat (cond t (pos 4) (pos 0)) 4 ≡ t
 four-or-not true = refl
 four-or-not false = refl
 
-or-true : (t : Bool) → (t || true) ≡ true
-or-true true = refl
-or-true false = refl
-
 canon-word : (r : SuperOpts) → wordOf (canon r) ≡ wordOf r
 canon-word r = filtered-word r (cond (isNat (r .«scale_down») 4) (pos 4) (pos 0)) (pos 0) (four-or-not (isNat (r .«scale_down») 4))
 
 pub canon-accepted : (r : SuperOpts) → accepted r ≡ true → accepted (canon r) ≡ true
-canon-accepted r e = filtered-accepted r (cond (isNat (r .«scale_down») 4) (pos 4) (pos 0)) (pos 0) (four-or-not (isNat (r .«scale_down») 4)) e (or-true (isNat (r .gpu) 0))
+canon-accepted r e = filtered-accepted r (cond (isNat (r .«scale_down») 4) (pos 4) (pos 0)) (pos 0) (four-or-not (isNat (r .«scale_down») 4)) e (or-yes (isNat (r .gpu) 0))
 
 -- ---- a code
 pub packs-canon : (v : ℕ) (r : SuperOpts) → Packs v r → candidate v ≡ canon r
@@ -159,17 +150,6 @@ at-0 open-down e = absurd (omega arith)
 at-0 open-up e = absurd (omega arith)
 at-0 tells e = (refl, refl, refl)
 
-pub false-by : (t : Bool) → (t ≡ true → ⊥) → t ≡ false
-false-by true h = absurd (h refl)
-false-by false h = refl
-
-pub true-by : (t : Bool) → (t ≡ false → ⊥) → t ≡ true
-true-by true h = refl
-true-by false h = absurd (h refl)
-
-pub clash : (t : Bool) → t ≡ true → t ≡ false → ⊥
-clash t p q = yes-no (sym p ∙ q)
-
 -- ---- 20: "It answers "not a code" exactly if none packs to it"
 pub none-exact : (v : ℕ) → (readNo v ≡ 20) ↔ ((r : SuperOpts) → Packs v r → ⊥)
 none-exact v = (
@@ -198,10 +178,6 @@ tells-exact v e r p =
     ap describe same ∙ canon-told r (fine r (p .good)) (subst (λ (q : SuperOpts). halving q ≡ false) same (known .1)) (subst (λ (q : SuperOpts). upscale q ≡ false) same (known .2))
 
 -- ---- 21
-no-four : (t : Bool) → not t ≡ true → false ≡ t
-no-four true e = absurd (yes-no (sym e))
-no-four false e = refl
-
 -- a record of an open halving filter has a down that isn't 4, since down 4 is one filter
 four-is : (z y : ℤ) → isNat z 4 ≡ true → isNat y 4 ≡ true → halvingOf z ≡ halvingOf y
 four-is z y p q = ap halvingOf (is-nat-pos z 4 p ∙ sym (is-nat-pos y 4 q))
@@ -213,12 +189,12 @@ halving-witness : (v : ℕ) → readNo v ≡ 21 → HalvingOpen v
 halving-witness v e =
     let k = at-21 (read-case v) e in
     let c = candidate v in
-    let other = no-four (isNat (c .«scale_down») 4) (and-right (downMatters c) (not (isNat (c .«scale_down») 4)) (k .1)) in
+    let other = sym (not-true (isNat (c .«scale_down») 4) (and-right (downMatters c) (not (isNat (c .«scale_down») 4)) (k .1))) in
     record {
       one = filtered c (pos 0) (pos 0);
       other = filtered c (pos 5) (pos 0);
-      one-packs = filtered-packs v c (pos 0) (pos 0) (code-packs v (k .0)) refl refl other (or-true (isNat (c .gpu) 0));
-      other-packs = filtered-packs v c (pos 5) (pos 0) (code-packs v (k .0)) refl refl other (or-true (isNat (c .gpu) 0));
+      one-packs = filtered-packs v c (pos 0) (pos 0) (code-packs v (k .0)) refl refl other (or-yes (isNat (c .gpu) 0));
+      other-packs = filtered-packs v c (pos 5) (pos 0) (code-packs v (k .0)) refl refl other (or-yes (isNat (c .gpu) 0));
       matters = and-left (downMatters c) (not (isNat (c .«scale_down») 4)) (k .1);
       differ = λ h. omega arith;
     }
@@ -236,10 +212,6 @@ halving-exact v = (halving-witness v, λ h. read-by v ∙ rw (packs-code v (h .o
 zero-is : (z y : ℤ) → isNat z 0 ≡ true → isNat y 0 ≡ true → upscaleOf z ≡ upscaleOf y
 zero-is z y p q = ap upscaleOf (is-nat-pos z 0 p ∙ sym (is-nat-pos y 0 q))
 
-pub or-right : (a b : Bool) → a ≡ false → (a || b) ≡ true → b ≡ true
-or-right true b e f = cc
-or-right false b e f = f
-
 upscale-witness : (v : ℕ) → readNo v ≡ 22 → UpscaleOpen v
 upscale-witness v e =
     let k = at-22 (read-case v) e in
@@ -248,7 +220,7 @@ upscale-witness v e =
     record {
       one = filtered c (c .«scale_down») (pos 0);
       other = filtered c (c .«scale_down») (pos 1);
-      one-packs = filtered-packs v c (c .«scale_down») (pos 0) (code-packs v (k .0)) (code-packs v (k .0) .down-fits) refl refl (or-true (isNat (c .gpu) 0));
+      one-packs = filtered-packs v c (c .«scale_down») (pos 0) (code-packs v (k .0)) (code-packs v (k .0) .down-fits) refl refl (or-yes (isNat (c .gpu) 0));
       other-packs = filtered-packs v c (c .«scale_down») (pos 1) (code-packs v (k .0)) (code-packs v (k .0) .down-fits) refl refl (rw zero);
       matters = and-left (upMatters c) (isNat (c .gpu) 0) (k .2);
       differ = λ h. omega arith;

@@ -13,6 +13,7 @@ use Rattle.settings.specs.Numbers.{isNat, toNat, bit, refuse}
 use Rattle.settings.specs.Check.{accepted, recordNo, pelOf, lumaW, lumaH, levelCount}
 use Rattle.settings.specs.Word.{wordOf, packNo, bits}
 use Rattle.settings.specs.Answers.{Answer, answer, number, packAnswer}
+use Rattle.settings.proofs.Tests.{not-known}
 use Rattle.settings.proofs.Refusals.{then-first, refuse-not}
 use Rattle.settings.proofs.Known.{number-some, given}
 use Rattle.settings.proofs.Accepted.{fine, sound, within, pos-pel, pos-gpu, pos-side, pos-levels}
@@ -25,10 +26,6 @@ bit-small false = omega arith
 pub bit-back : (t : Bool) → eqb (bit t) 1 ≡ t
 bit-back true = refl
 bit-back false = refl
-
-pub not-not : (t : Bool) → not (not t) ≡ t
-not-not true = refl
-not-not false = refl
 
 pub record Small (r : SuperOpts) : Type 0 where
   pub height : lumaH r < 2 ^ 16
@@ -117,9 +114,6 @@ module _ (r : SuperOpts) (s : Small r) where
 -- ---- two accepted records with one word
 bit-known : (a b : Bool) → bit a ≡ bit b → a ≡ b
 bit-known a b e = sym (bit-back a) ∙ ap (λ (n : ℕ). eqb n 1) e ∙ bit-back b
-
-not-known : (a b : Bool) → not a ≡ not b → a ≡ b
-not-known a b e = sym (not-not a) ∙ ap not e ∙ not-not b
 
 -- they agree in all that the word holds
 pub record Agree (r q : SuperOpts) : Type 0 where

@@ -7,9 +7,9 @@ use borrow.Author.Tests.{ltb-true}
 use lib.IntN.{ℤ, pos, negsuc}
 use lib.Signed.{ltZ, mag}
 use Rattle.settings.specs.Numbers.{toNat}
-use Rattle.settings.proofs.Integers.{never, yes-no}
+use Rattle.settings.proofs.Tests.{yes-no}
+use Rattle.settings.proofs.Integers.{same, never, turned-neg, mag-fits}
 use Rattle.lines.specs.Text.{magnitude}
-use Rattle.settings.proofs.Integers.{same, turned-neg, mag-fits}
 use borrow.Author.Needs.{needs}
 use Rattle.lines.proofs.text.magnitude.Statement.{statement}
 use Rattle.lines.proofs.text.magnitude.Tie as tie

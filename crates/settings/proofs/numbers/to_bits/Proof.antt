@@ -7,7 +7,8 @@ use borrow.Author.Tests.{ltb-true, le-ltb}
 use lib.IntN.{ℤ, pos, negsuc, natAbs}
 use lib.Signed.{ltZ, mag}
 use Rattle.settings.specs.Numbers.{bitsOf}
-use Rattle.settings.proofs.Integers.{same, never, yes-no, casts, turned-neg, mag-fits}
+use Rattle.settings.proofs.Tests.{yes-no}
+use Rattle.settings.proofs.Integers.{same, never, casts, turned-neg, mag-fits}
 use Rattle.settings.proofs.numbers.to_bits.Statement.{statement}
 use Rattle.settings.proofs.numbers.to_bits.Tie as tie
 

@@ -7,7 +7,8 @@ use native.Mathlib.Omega.{arith}
 use borrow.Author.Tests.{ltb-true}
 use lib.IntN.{ℤ, pos, negsuc}
 use lib.Signed.{ltZ}
-use Rattle.settings.proofs.Integers.{same, never, yes-no}
+use Rattle.settings.proofs.Tests.{yes-no}
+use Rattle.settings.proofs.Integers.{same, never}
 use Rattle.lines.specs.Text.{decimal, magnitude, signed, spaced}
 use Rattle.lines.proofs.Lines.{_after_, said, wider}
 use borrow.Author.Needs.{needs}
