@@ -4,7 +4,7 @@ use mathlib.Core.List.{List, _++_, append-assoc}
 use Prim.Native.Nat.{ℕ, _+_, _*_, _-_, _≤_, _<_}
 use native.Mathlib.Nat.{add-sub-cancel-left}
 use native.Mathlib.Omega.{arith}
-use lib.ListN.{length, take, drop, replicate, length-append, length-drop}
+use lib.ListN.{length, take, drop, replicate, length-append, length-drop, length-replicate}
 use lib.Seq.{take-at, drop-at, length-take-le, drop-append-le, drop-drop}
 use Rattle.filters.specs.declared.halving.ReduceFilter.{ReduceFilter}
 use Rattle.filters.specs.declared.halving.ReduceFilter.the-variants.{Cubic}
@@ -82,6 +82,12 @@ fused-run p w at c v long wide fits =
     ∙ ap (λ (k : ℕ). put (put c at row) (at + k) z) (sym lr)
     ∙ put-after c row at (omega arith) z
     ∙ ap (put c at) (append-assoc h (drop w v) z)
+
+pub fused-length : (p w : ℕ) (v : List ℕ) → 2 * w ≤ p → length v ≡ 2 * w → length (fusedLine p w v) ≡ p
+fused-length p w v fits e =
+    let z = replicate {A = ℕ} (p - 2 * w) 0 in
+    length-append (horizontalRow Cubic w v) (drop w v ++ z)
+    ∙ omega (arith, horizontal-length Cubic w v, length-append (drop w v) z, length-drop w v, length-replicate {A = ℕ} (p - 2 * w) 0)
 
 -- ---- what a target that lies in the frame gives
 pub row-within : {len scratch base p : ℕ} {t : Region} {y : ℕ} → Within len scratch base p t → y < t .height → t .offset + y * p + p ≤ len

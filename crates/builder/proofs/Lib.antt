@@ -4,9 +4,15 @@
 --     Halves     a row of it halved in its place, and a row of the fused cubic
 --     Refined    a row stored in the list that it is read of; the planes of level 0
 --     Spreads    level 1 from the source plane: its rows in a frame and its spill
+--     Related    rows byte by byte in a relation of bytes
+--     Stages     one walk through the stages, for any relation of two canvases
+--     Placed     stages that have room in a frame and its spill
 -- The folders hold a proof for each function.
 pub mod Runs
 pub mod Lines
 pub mod Halves
 pub mod Refined
 pub mod Spreads
+pub mod Related
+pub mod Stages
+pub mod Placed

@@ -1,15 +1,15 @@
--- One row of a later level before it is halved: the rows that it reads lie in the source, and others have no effect. Assumes nothing.
+-- One row of a later level before it is halved: the rows that it reads lie in the source, and others have no effect; last all that it reads, for whatever is known of it. Assumes nothing.
 use mathlib.Core.Path.{_≡_, refl, sym, ap, _∙_}
 use mathlib.Core.Bool.{Bool, true, false, cond, _&&_}
 use mathlib.Core.List.{List, _++_, append-nil}
-use Prim.Native.Nat.{ℕ, zero, suc, _+_, _*_, _-_, _≤_, _<_, min}
-use native.Mathlib.Nat.{add-mul, one-mul}
+use Prim.Native.Nat.{ℕ, zero, suc, _+_, _*_, _-_, _/_, _≤_, _<_, min}
+use native.Mathlib.Nat.{mul-le-mul-right, add-mul, one-mul}
 use native.Mathlib.Omega.{arith}
 use lib.Dec.{leb, eqb}
 use borrow.Author.Tests.{leb-false}
 use lib.ListN.{length, take, drop, length-append, drop-of-length-le}
 use lib.Seq.{length-take-le}
-use mathlib.Core.Logic.{_⊎_, inl, inr}
+use mathlib.Core.Logic.{_⊎_, inl, inr, ⊎-elim}
 use Rattle.settings.proofs.Tests.{or-false-right}
 use Rattle.filters.specs.declared.halving.ReduceFilter.{ReduceFilter}
 use Rattle.filters.specs.declared.halving.ReduceFilter.the-variants.{Average, Bilinear, Quadratic, Cubic}
@@ -94,7 +94,7 @@ rest-reach Bilinear n sp e ne = absurd (ne e)
 rest-reach Quadratic n sp e ne = absurd (ne e)
 rest-reach Cubic n sp e ne = refl
 
-whole-length : (f : ReduceFilter) (n : ℕ) (s : List ℕ) (at sp : ℕ) → length (wholeLine f n s at sp) ≡ n
+pub whole-length : (f : ReduceFilter) (n : ℕ) (s : List ℕ) (at sp : ℕ) → length (wholeLine f n s at sp) ≡ n
 unfolding wholeLine
 whole-length f n s at sp = sixes-length (weigh f) n _ _ _ _ _ _
 
@@ -174,3 +174,75 @@ whole-or Average n = (omega arith, inl refl)
 whole-or Bilinear n = (omega arith, inl refl)
 whole-or Quadratic n = (omega arith, inl refl)
 whole-or Cubic n = (omega arith, inr refl)
+
+-- ---- all that it reads, where `Ok` says which runs are good
+-- a row that is no edge: n columns, `whole` of them by rows alone, from the source row at `at`
+pub record InnerReads (Ok : ℕ → ℕ → Type 0) (f : ReduceFilter) (whole n at sp : ℕ) : Type 0 where
+  pub m2 : 2 ≤ firstRow f → Ok (at - 2 * sp) whole
+  pub m1 : Ok (at - sp) whole
+  pub c0 : Ok at whole
+  pub p1 : Ok (at + sp) whole
+  pub p2 : 2 ≤ lastRow f → Ok (at + 2 * sp) whole
+  pub p3 : 3 ≤ lastRow f → Ok (at + 3 * sp) whole
+  pub ra : whole < n → Ok (at + whole - sp / 2) (n - whole)
+  pub r1 : whole < n → Ok (at + whole - sp) (n - whole)
+  pub r2 : whole < n → Ok (at + whole) (n - whole)
+  pub r3 : whole < n → Ok (at + whole + sp) (n - whole)
+  pub rb : whole < n → Ok (at + whole + sp / 2) (n - whole)
+  pub rc : whole < n → Ok (at + whole + 3 * (sp / 2)) (n - whole)
+
+pub record LineReads (Ok : ℕ → ℕ → Type 0) (f : ReduceFilter) (whole n h base sp y : ℕ) : Type 0 where
+  pub first : isEdge f y h ≡ true → Ok (base + y * (2 * sp)) n
+  pub second : isEdge f y h ≡ true → Ok (base + y * (2 * sp) + sp) n
+  pub inner : isEdge f y h ≡ false → InnerReads Ok f whole n (base + y * (2 * sp)) sp
+
+-- where every run is
+pub reads-all : {Ok : ℕ → ℕ → Type 0} {f : ReduceFilter} {whole n h base sp y : ℕ} → ((at k : ℕ) → Ok at k) → LineReads Ok f whole n h base sp y
+reads-all all =
+    record {
+      first = λ e. all _ _;
+      second = λ e. all _ _;
+      inner = λ e. record {
+        m2 = λ z. all _ _;
+        m1 = all _ _;
+        c0 = all _ _;
+        p1 = all _ _;
+        p2 = λ z. all _ _;
+        p3 = λ z. all _ _;
+        ra = λ z. all _ _;
+        r1 = λ z. all _ _;
+        r2 = λ z. all _ _;
+        r3 = λ z. all _ _;
+        rb = λ z. all _ _;
+        rc = λ z. all _ _;
+      };
+    }
+
+-- where every run in the source is
+module _ {Ok : ℕ → ℕ → Type 0} {len : ℕ} (ok : (at k : ℕ) → at + k ≤ len → Ok at k) (f : ReduceFilter) {whole n : ℕ} (le : whole ≤ n) (either : (whole ≡ n) ⊎ (lastRow f ≡ 3)) where
+  inner-reads : {at sp : ℕ} → 2 * sp ≤ at → at + lastRow f * sp + n ≤ len → InnerReads Ok f whole n at sp
+  inner-reads {at} {sp} above below =
+      let near = last-near f sp .0 in
+      let far : whole < n → lastRow f * sp ≡ 3 * sp = λ some. ⊎-elim (λ (e : whole ≡ n). absurd (omega arith)) (λ (e : lastRow f ≡ 3). ap (λ (k : ℕ). k * sp) e) either in
+      record {
+        m2 = λ z. ok _ _ (omega arith);
+        m1 = ok _ _ (omega arith);
+        c0 = ok _ _ (omega arith);
+        p1 = ok _ _ (omega arith);
+        p2 = λ two. ok _ _ (omega (arith, mul-le-mul-right sp two));
+        p3 = λ three. ok _ _ (omega (arith, mul-le-mul-right sp three));
+        ra = λ some. ok _ _ (omega (arith, far some));
+        r1 = λ some. ok _ _ (omega (arith, far some));
+        r2 = λ some. ok _ _ (omega (arith, far some));
+        r3 = λ some. ok _ _ (omega (arith, far some));
+        rb = λ some. ok _ _ (omega (arith, far some));
+        rc = λ some. ok _ _ (omega (arith, far some));
+      }
+
+  pub line-reads : {base sp h y : ℕ} → Source len base sp n h → y < h → LineReads Ok f whole n h base sp y
+  line-reads s lt =
+      record {
+        first = λ e. ok _ _ (omega (arith, edge-reach s lt));
+        second = λ e. ok _ _ (edge-reach s lt);
+        inner = λ e. let r = inner-reach f s lt e in inner-reads (r .0) (r .1);
+      }

@@ -30,8 +30,12 @@ use Rattle.builder.specs.Canvas.{fetch}
 use Rattle.builder.specs.Refining.{refine}
 use Rattle.builder.specs.Room.{Planes}
 use Rattle.builder.proofs.Runs.{fetch-length, Inside, inside-put, inside-steps}
+use Rattle.builder.proofs.Related.{Bytes, Rel}
+use Rattle.builder.proofs.Stages.{Respects, Notion}
+use Rattle.builder.proofs.Placed.{Allows}
 use Rattle.planes.specs.Build.{planesOf, copied, halved, refines, refined, built, builtFrame}
 use Rattle.planes.proofs.Prepared.{source-need}
+use Rattle.planes.proofs.Parts.{copied-kept}
 
 -- ---- what the refusals leave
 record Fits (q : Layout) (n sp len spill scratch : ℕ) : Type 0 where
@@ -153,6 +157,9 @@ copied-inside q {n} {sp} {len} src r some full =
     inside-steps len _ (heightAt q 0)
     (λ y lt.
     inside-put len (y * q .pitch) w (λ c. fetch src (y * sp) w) (target-row q (allowed q (r .layout)) len some (r .end) full y lt) (λ c. fetch-length src (y * sp) w) (λ c S e. refl))
+
+pub copied-placed : {E : ℕ → ℕ → Type 0} (B : Bytes E) {N : Notion E} (q : Layout) (src src' : List ℕ) {n sp len spill scratch : ℕ} → Ready q n sp len spill scratch → Allows N len → Rel E src src' → 1 ≤ levelsOf q → q .opts .full ≡ true → Respects (N .R) (copied q src sp) (copied q src' sp)
+copied-placed B {N} q src src' {sp = sp} {len = len} r A same some full = copied-kept B N q src src' sp same (λ y lt. A .takes _ _ (target-row q (allowed q (r .layout)) len some (r .end) full y lt))
 
 first-aside : (q : Layout) {n sp len spill scratch : ℕ} (src F S : List ℕ) → length F ≡ len → Ready q n sp len spill scratch → 1 ≤ levelsOf q → cond (q .opts .full) (copied q src sp F) F ++ S ≡ cond (q .opts .full) (copied q src sp (F ++ S)) (F ++ S)
 first-aside q {n} {sp} src F S e r some = go (q .opts .full) refl
