@@ -7,6 +7,7 @@
 --     Related    rows byte by byte in a relation of bytes
 --     Stages     one walk through the stages, for any relation of two canvases
 --     Placed     stages that have room in a frame and its spill
+--     Inside     stages that stay inside the frame don't see what follows it
 -- The folders hold a proof for each function.
 pub mod Runs
 pub mod Lines
@@ -16,3 +17,4 @@ pub mod Spreads
 pub mod Related
 pub mod Stages
 pub mod Placed
+pub mod Inside

@@ -30,7 +30,7 @@ first-near Bilinear sp = omega arith
 first-near Quadratic sp = omega arith
 first-near Cubic sp = omega arith
 
-pub last-near : (f : ReduceFilter) (sp : ℕ) → (sp ≤ lastRow f * sp) × (min (lastRow f) 2 * sp ≤ lastRow f * sp)
+last-near : (f : ReduceFilter) (sp : ℕ) → (sp ≤ lastRow f * sp) × (min (lastRow f) 2 * sp ≤ lastRow f * sp)
 last-near Average sp = (omega arith, omega arith)
 last-near Bilinear sp = (omega arith, omega arith)
 last-near Quadratic sp = (omega arith, omega arith)

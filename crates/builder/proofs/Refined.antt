@@ -1,4 +1,4 @@
--- Laws of refining: a row stored in the list that it is read of; a row of a pair, and the rows around one; planes that lie in a frame; stages that stay inside it; the stages one after the other; last the table of pairs. Assumes nothing.
+-- Laws of refining: a row stored in the list that it is read of; a row of a pair, and the rows around one; planes that lie in a frame; the stages one after the other; last the table of pairs. Assumes nothing.
 use mathlib.Core.Bool.{Bool, true, _&&_, _||_}
 use mathlib.Core.Logic.{_⊎_, inl, inr, ⊎-elim}
 use mathlib.Core.Path.{_≡_, refl, sym, ap, _∙_, subst}
@@ -13,18 +13,18 @@ use lib.Seq.{drop-cons, set-at, append-snoc, length-take-le}
 use borrow.Author.Tests.{leb-true}
 use Rattle.settings.proofs.Tests.{and-left, and-right, or-cases}
 use Rattle.filters.specs.Row.{tab, meanOf, meansOf}
-use Rattle.filters.specs.Refine.{halfHorizontal, halfVertical}
+use Rattle.filters.specs.Refine.{halfVertical}
 use Rattle.filters.specs.declared.half_pel.HalfPel.{HalfPel}
 use Rattle.filters.proofs.Tables.{tab-length, tab-ext}
-use Rattle.filters.proofs.Lengths.{means-length, half-horizontal-length, half-vertical-length}
+use Rattle.filters.proofs.Lengths.{means-length}
 use Rattle.layouts.specs.Storing.{put, steps}
-use Rattle.layouts.proofs.Loops.{row-in, row-fits, put-plain}
+use Rattle.layouts.proofs.Loops.{row-in, put-plain}
 use Rattle.builder.specs.Canvas.{fetch, copyRun}
 use Rattle.builder.specs.declared.refining.Interp.{Interp}
 use Rattle.builder.specs.declared.refining.Pair.{Pair}
 use Rattle.builder.specs.Refining.{pairRun, pairPlane, horizontalPlane, verticalRun, verticalPlane, planeAt, meanPlanes, kernelPlanes, pairOf, pairs, quarter, foldPairs}
 use Rattle.builder.specs.Room.{PairPlane, OnePlane, Planes, Halves, Quarter}
-use Rattle.builder.proofs.Runs.{Inside, inside-put, inside-then, inside-steps, fetch-at, fetch-length, fetch-left, fetch-before, fetch-stored, put-before, put-past, put-left}
+use Rattle.builder.proofs.Runs.{fetch-at, fetch-length, fetch-before, fetch-stored, put-before, put-past}
 
 tab-next : (f : ℕ → ℕ) (n : ℕ) → tab f (n + 1) ≡ tab f n ++ (f n ∷ [])
 unfolding tab
@@ -91,14 +91,6 @@ pair-laid c t l r n =
 -- ---- one row of a pair
 pub before-or-after : (s t e : ℕ) → (leb e t || leb t s) ≡ true → (e ≤ t) ⊎ (t ≤ s)
 before-or-after s t e h = ⊎-elim (λ (a : leb e t ≡ true). inl (leb-true e t a)) (λ (b : leb t s ≡ true). inr (leb-true t s b)) (or-cases (leb e t) (leb t s) h)
-
--- inside the frame
-pub pair-left : (F S : List ℕ) (t l r n : ℕ) → l + n ≤ length F → r + n ≤ length F → t + n ≤ length F → pairRun t l r n F ++ S ≡ pairRun t l r n (F ++ S)
-unfolding pairRun
-pair-left F S t l r n hl hr ht =
-    put-left F S (meansOf n (fetch F l n) (fetch F r n)) t (omega (arith, means-length n (fetch F l n) (fetch F r n)))
-    ∙ ap (λ (x : List ℕ). put (F ++ S) t (meansOf n x (fetch F r n))) (fetch-left F S l n hl)
-    ∙ ap (λ (x : List ℕ). put (F ++ S) t (meansOf n (fetch (F ++ S) l n) x)) (fetch-left F S r n hr)
 
 -- both rows laid at the start of x, and the means after them
 pub pair-apart : (c x : List ℕ) (l r n : ℕ) → fetch (pairRun (2 * n) 0 n n (put (put x 0 (fetch c l n)) n (fetch c r n))) (2 * n) n ≡ meansOf n (fetch c l n) (fetch c r n)
@@ -197,45 +189,6 @@ pel-four known not-two = ⊎-elim (λ e. absurd (not-two e)) (λ e. e) known
 
 pub planes-at : {pel m len scratch : ℕ} {i : Interp} → pel ≡ m → Planes (pel * pel) len scratch i → Planes (m * m) len scratch i
 planes-at {pel} {m} {len} {scratch} {i} e P = subst (λ (k : ℕ). Planes (k * k) len scratch i) e P
-
--- ---- stages that stay inside a frame
-pub copy-inside : (len s t n : ℕ) → s + n ≤ len → t + n ≤ len → Inside len (copyRun s t n)
-unfolding copyRun
-copy-inside len s t n hs ht = inside-put len t n (λ c. fetch c s n) ht (λ c. fetch-length c s n) (λ c S e. fetch-left c S s n (omega (arith, e)))
-
-horizontal-inside : (k : HalfPel) (len scratch : ℕ) (i : Interp) (t s : ℕ) → OnePlane len scratch (i .height) i t s → Inside len (horizontalPlane k i t s)
-unfolding horizontalPlane
-horizontal-inside k len scratch i t s o =
-    let w = i .width in
-    inside-steps len _ (i .height)
-    (λ y lt.
-    inside-put len (t + y * i .pitch) w (λ c. halfHorizontal k w (fetch c (s + y * i .pitch) w)) (row-fits len t w (i .pitch) (i .height) y (o .fits) (o .target) lt)
-    (λ c. half-horizontal-length k w (fetch c (s + y * i .pitch) w))
-    (λ c S e.
-    let r = row-fits len s w (i .pitch) (i .height) y (o .fits) (o .source) lt in
-    ap (halfHorizontal k w) (fetch-left c S (s + y * i .pitch) w (omega (arith, r, e)))))
-
-vertical-inside : (k : HalfPel) (len scratch : ℕ) (i : Interp) (t s : ℕ) → OnePlane len scratch (i .height + 3) i t s → Inside len (verticalPlane k i t s)
-unfolding verticalPlane verticalRun
-vertical-inside k len scratch i t s o =
-    let w = i .width in
-    let p = i .pitch in
-    inside-steps len _ (i .height)
-    (λ y lt.
-    inside-put len (t + y * p) w (verticalRun k i s y) (row-fits len t w p (i .height) y (o .fits) (o .target) lt)
-    (λ c. half-vertical-length k y (i .height) w _ _ _ _ _ _)
-    (λ c S e.
-    let row : (j : ℕ) → j < i .height + 3 → fetch c (s + j * p) w ≡ fetch (c ++ S) (s + j * p) w = λ j h. fetch-left c S (s + j * p) w (omega (arith, row-fits len s w p (i .height + 3) j (o .fits) (o .source) h, e)) in
-    rw (row (y - 2) (omega arith), row (y - 1) (omega arith), row y (omega arith), row (y + 1) (omega arith), row (y + 2) (omega arith), row (y + 3) (omega arith))))
-
-pub kernel-inside : (k : HalfPel) (len scratch : ℕ) (i : Interp) (a b d : ℕ) → Halves a b d → Planes (d + 1) len scratch i → Inside len (kernelPlanes k i a b d)
-unfolding kernelPlanes
-kernel-inside k len scratch i a b d h P =
-    inside-then
-    (inside-then
-    (horizontal-inside k len scratch i (planeAt i a) 0 (horizontal-fits P a (planeAt i a) 0 0 (omega (arith, h .across)) refl (omega arith) (omega arith)))
-    (vertical-inside k len scratch i (planeAt i b) 0 (vertical-fits P b (planeAt i b) (omega (arith, h .below)) (omega (arith, h .some)) refl)))
-    (horizontal-inside k len scratch i (planeAt i d) (planeAt i b) (horizontal-fits P d (planeAt i d) b (planeAt i b) (omega arith) refl (omega (arith, h .below)) refl))
 
 -- ---- the stages one after the other
 pub mean-stages : (i : Interp) (a b d A : ℕ) → A ≡ planeAt i a → (c c1 c2 c3 : List ℕ) → c1 ≡ pairPlane i A 0 1 c → c2 ≡ copyRun 0 (planeAt i b) (i .width) (pairPlane i (planeAt i b) 0 (i .pitch) c1) → c3 ≡ copyRun 1 (planeAt i d) (i .width) (pairPlane i (planeAt i d) 0 (i .pitch + 1) c2) → c3 ≡ meanPlanes i a b d c

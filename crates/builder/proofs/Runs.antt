@@ -1,14 +1,14 @@
--- Laws of the canvas: what is read of two lists one after the other, and what is stored in them; then loops over frame, spill and scratch; stages that keep a list's length; last those that stay inside the first of two. Assumes nothing.
+-- Laws of the canvas: what is read of two lists one after the other, and what is stored in them; last loops over frame, spill and scratch. Assumes nothing.
 use mathlib.Core.Path.{_≡_, refl, sym, ap, _∙_}
 use mathlib.Core.List.{List, [], _++_, append-assoc, append-nil}
 use mathlib.Core.Logic.{⊎-elim}
-use Prim.Native.Nat.{ℕ, zero, suc, _+_, _-_, _≤_, _<_, max}
+use Prim.Native.Nat.{ℕ, _+_, _-_, _≤_, _<_, max}
 use native.Mathlib.Omega.{arith}
 use lib.ListN.{length, getD, take, drop, replicate, length-append, length-take, length-drop, length-replicate, getD-replicate, take-append-drop, drop-of-length-le, List·getD-append, List·getD-eq-default}
 use lib.Seq.{take-at, drop-at, take-all, getD-take, getD-drop, getD-append-add, length-take-le, take-append-le, drop-append-le, take-append-add, drop-append-add}
 use Rattle.filters.proofs.Tests.{below-or}
 use Rattle.filters.proofs.Tables.{tab-length, tab-at, is-tab}
-use Rattle.layouts.specs.Storing.{put, steps}
+use Rattle.layouts.specs.Storing.{put}
 use Rattle.layouts.proofs.Loops.{put-plain, put-lent, Walked, walked-none, walked-more, walked-next}
 use Rattle.builder.specs.Canvas.{fetch}
 
@@ -283,63 +283,3 @@ module _ {F₀ S₀ X₀ F S X F' S' X' : List ℕ} {h y : ℕ} where
         spill = es ∙ w .spill;
         scratch = ex ∙ w .scratch;
       }
-
--- ---- stages that keep the length of a list of len bytes: nothing is stored past it
-pub record Keeps (len : ℕ) (stage : List ℕ → List ℕ) : Type 0 where
-  pub same : (c : List ℕ) → length c ≡ len → length (stage c) ≡ len
-
--- a run of n bytes, read in whatever way
-pub keeps-put : (len at n : ℕ) (run : List ℕ → List ℕ) → at + n ≤ len → ((c : List ℕ) → length (run c) ≡ n) → Keeps len (λ c. put c at (run c))
-keeps-put len at n run fits long = record { same = λ c e. put-length c at (run c) (omega (arith, long c)) ∙ e }
-
-pub keeps-then : {len : ℕ} {f g : List ℕ → List ℕ} → Keeps len f → Keeps len g → Keeps len (λ c. g (f c))
-keeps-then {len} {f} {g} a b = record { same = λ c e. b .same (f c) (a .same c e) }
-
-pub keeps-none : {len : ℕ} → Keeps len (λ c. c)
-keeps-none = record { same = λ c e. e }
-
-pub keeps-steps : (len : ℕ) (step : ℕ → List ℕ → List ℕ) (n : ℕ) → ((y : ℕ) → y < n → Keeps len (step y)) → Keeps len (steps step n)
-unfolding steps
-keeps-steps len step zero each = keeps-none
-keeps-steps len step (suc n) each = keeps-then (keeps-steps len step n (λ y h. each y (omega arith))) (each n (omega arith))
-
--- ---- stages that stay inside: lists that follow don't count
-pub record Inside (len : ℕ) (stage : List ℕ → List ℕ) : Type 0 where
-  pub keeps : Keeps len stage
-  pub aside : (c S : List ℕ) → length c ≡ len → stage c ++ S ≡ stage (c ++ S)
-
-pub inside-put : (len at n : ℕ) (run : List ℕ → List ℕ) → at + n ≤ len → ((c : List ℕ) → length (run c) ≡ n) → ((c S : List ℕ) → length c ≡ len → run c ≡ run (c ++ S)) → Inside len (λ c. put c at (run c))
-inside-put len at n run fits long reads =
-    record {
-      keeps = keeps-put len at n run fits long;
-      aside = λ c S e. put-left c S (run c) at (omega (arith, long c)) ∙ ap (put (c ++ S) at) (reads c S e);
-    }
-
-pub inside-then : {len : ℕ} {f g : List ℕ → List ℕ} → Inside len f → Inside len g → Inside len (λ c. g (f c))
-inside-then {len} {f} {g} a b =
-    record {
-      keeps = keeps-then (a .keeps) (b .keeps);
-      aside = λ c S e. b .aside (f c) S (a .keeps .same c e) ∙ ap g (a .aside c S e);
-    }
-
-pub inside-none : {len : ℕ} → Inside len (λ c. c)
-inside-none = record { keeps = keeps-none; aside = λ c S e. refl }
-
-pub inside-steps : (len : ℕ) (step : ℕ → List ℕ → List ℕ) (n : ℕ) → ((y : ℕ) → y < n → Inside len (step y)) → Inside len (steps step n)
-unfolding steps
-inside-steps len step zero each = inside-none
-inside-steps len step (suc n) each = inside-then (inside-steps len step n (λ y h. each y (omega arith))) (each n (omega arith))
-
--- in a longer list they keep its length too
-pub inside-keeps : {len : ℕ} {stage : List ℕ → List ℕ} (more : ℕ) → Inside len stage → Keeps (len + more) stage
-inside-keeps {len} {stage} more s =
-    record {
-      same = λ c e.
-          let F = take len c in
-          let S = drop len c in
-          let long : length F ≡ len = length-take-le len c (omega arith) in
-          ap (λ (x : List ℕ). length (stage x)) (sym (take-append-drop len c))
-          ∙ ap length (sym (s .aside F S long))
-          ∙ length-append (stage F) S
-          ∙ omega (arith, s .keeps .same F long, length-drop len c);
-    }

@@ -1,5 +1,5 @@
 -- What is proved of the definitions, from the general to the special:
---     Prepared   a build that isn't refused: what its stages need is there, and those inside the frame don't see the spill
+--     Prepared   a build that isn't refused: what its stages need is there; a later level, in its way
 --     Parts      a build keeps what each of its stages keeps, for any relation of two canvases
 --     Whole      a build, whole: what the refusals leave, level 0's rows and planes, and its stages one after the other
 --     Built      a build that isn't refused reads and stores in frame and spill alone

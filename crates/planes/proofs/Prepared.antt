@@ -1,23 +1,19 @@
--- A build that isn't refused: what its stages need of the slices is there, and the stages inside the frame don't see the spill. Assumes nothing.
+-- A build that isn't refused: what its stages need of the slices is there; what the fused cubic was taken for; last a later level, in its way. Assumes nothing.
 use mathlib.Core.Path.{_≡_, refl, sym, ap, subst, _∙_}
-use mathlib.Core.Bool.{Bool, true, false, cond, _&&_, _||_}
+use mathlib.Core.Bool.{true, false, _&&_, _||_}
 use mathlib.Core.List.{List, _++_}
 use mathlib.Core.Logic.{_⊎_, inl, inr, ⊎-elim}
-use Prim.Native.Nat.{ℕ, suc, _+_, _*_, _-_, _/_, _%_, _≤_, _<_}
+use Prim.Native.Nat.{ℕ, suc, _+_, _*_, _-_, _%_, _≤_, _<_}
 use native.Mathlib.Nat.{mul-le-mul-right, mul-assoc, add-mul, one-mul}
 use native.Mathlib.Numerals.{add-one}
 use native.Mathlib.Omega.{arith}
 use lib.Dec.{leb, eqb}
-use lib.ListN.{length, drop, replicate, length-append, length-drop, length-replicate}
+use lib.ListN.{length}
 use borrow.Author.Tests.{leb-true, leb-false, eqb-true, ne-eqb}
 use Rattle.settings.specs.Numbers.{isNat}
 use Rattle.settings.proofs.Tests.{and-left, and-right, or-cases, or-false-left, or-false-right}
 use Rattle.filters.specs.declared.halving.ReduceFilter.{ReduceFilter}
 use Rattle.filters.specs.declared.halving.ReduceFilter.the-variants.{Cubic}
-use Rattle.filters.specs.Row.{tab, meansOf, sixes}
-use Rattle.filters.specs.Halve.{lastRow, isEdge, weigh, restOf, horizontalRow}
-use Rattle.filters.proofs.Kernels.{rows-read}
-use Rattle.filters.proofs.Lengths.{horizontal-length}
 use Rattle.layouts.specs.declared.layout.Layout.{Layout}
 use Rattle.layouts.specs.declared.layout.Region.{Region}
 use Rattle.layouts.specs.Layout.{levelsOf, widthAt, heightAt, offsetAt, regionAt}
@@ -26,12 +22,9 @@ use Rattle.layouts.specs.Room.{Ready}
 use Rattle.layouts.proofs.Choices.{cond-yes, cond-no}
 use Rattle.layouts.proofs.Layouts.{allowed, offset-next, level-end, bytes-later, width-half, width-later, width-le, height-half}
 use Rattle.layouts.proofs.Stored.{twice, width-some, height-some, twice-fits, source-rows, spread-fits}
-use Rattle.builder.specs.Canvas.{fetch}
-use Rattle.builder.specs.Halving.{wholeOf, wholeLine, restLine, innerLine, verticalLine, verticalRows, halveRun, horizontalRows, fromStored, fusedLine, fused, fromSource}
-use Rattle.builder.specs.Room.{Source, Within, Spread}
-use Rattle.builder.proofs.Runs.{fetch-left, Inside, inside-put, inside-then, inside-steps}
-use Rattle.builder.proofs.Lines.{last-near, sixes-same, inner-reach, edge-reach, line-length, whole-or}
-use Rattle.builder.proofs.Halves.{row-within, source-within}
+use Rattle.builder.specs.Halving.{wholeOf, fromStored, fused, fromSource}
+use Rattle.builder.specs.Room.{Within, Spread}
+use Rattle.builder.proofs.Inside.{inside-stored, inside-fused}
 use Rattle.planes.specs.Build.{halveLevel}
 
 -- ---- what the levels need is there
@@ -108,97 +101,6 @@ module _ (q : Layout) (len l : ℕ) (e : fusedAt q len l ≡ true) where
       let all : (wide && eights && fits && source && target) ≡ true = fits-all in
       let zero' = eqb-true (2 * w % 8) 0 (and-right wide eights (and-left (wide && eights) fits (and-left (wide && eights && fits) source (and-left (wide && eights && fits && source) target all)))) in
       omega arith
-
--- ---- a row before it is halved doesn't see what follows its source
-module _ (f : ReduceFilter) (n : ℕ) (c S : List ℕ) (at sp : ℕ) (above : 2 * sp ≤ at) (below : at + lastRow f * sp + n ≤ length c) where
-  whole-aside : (k : ℕ) → k ≤ n → wholeLine f k c at sp ≡ wholeLine f k (c ++ S) at sp
-  unfolding wholeLine
-  whole-aside k le =
-      let d = c ++ S in
-      let left : (x : ℕ) → x + k ≤ length c → fetch c x k ≡ fetch d x k = λ x h. fetch-left c S x k h in
-      let near = last-near f sp .0 in
-      rows-read f k (fetch c (at - sp) k) (fetch c at k) (fetch c (at + sp) k) {p2 = fetch c (at + 2 * sp) k} {p3 = fetch c (at + 3 * sp) k}
-      (λ two. left (at - 2 * sp) (omega arith))
-      (λ two. left (at + 2 * sp) (omega (arith, mul-le-mul-right sp two)))
-      (λ three. left (at + 3 * sp) (omega (arith, mul-le-mul-right sp three)))
-      ∙ sixes-same (weigh f) k refl (left (at - sp) (omega arith)) (left at (omega arith)) (left (at + sp) (omega arith)) refl refl
-
-  rest-aside : (k : ℕ) → k ≤ n → lastRow f ≡ 3 → restLine (n - k) c (at + k) sp ≡ restLine (n - k) (c ++ S) (at + k) sp
-  unfolding restLine
-  rest-aside k le three =
-      let m = n - k in
-      let x = at + k in
-      let half = sp / 2 in
-      let far : lastRow f * sp ≡ 3 * sp = ap (λ (j : ℕ). j * sp) three in
-      let left : (y : ℕ) → y + m ≤ length c → fetch c y m ≡ fetch (c ++ S) y m = λ y h. fetch-left c S y m h in
-      sixes-same restOf m (left (x - half) (omega arith)) (left (x - sp) (omega arith)) (left x (omega arith)) (left (x + sp) (omega arith)) (left (x + half) (omega arith)) (left (x + 3 * half) (omega arith))
-
-  rest-none : (k : ℕ) → k ≡ n → restLine (n - k) c (at + k) sp ≡ restLine (n - k) (c ++ S) (at + k) sp
-  unfolding restLine sixes tab
-  rest-none k all = let none : n - k ≡ 0 = omega arith in rw none refl
-
-  inner-aside : (k : ℕ) → k ≤ n → (k ≡ n) ⊎ (lastRow f ≡ 3) → innerLine f k n c at sp ≡ innerLine f k n (c ++ S) at sp
-  unfolding innerLine
-  inner-aside k le either =
-      ap (λ (x : List ℕ). x ++ restLine (n - k) c (at + k) sp) (whole-aside k le)
-      ∙ ap (λ (x : List ℕ). wholeLine f k (c ++ S) at sp ++ x) (⊎-elim (rest-none k) (rest-aside k le) either)
-
-line-aside : (f : ReduceFilter) (whole n h : ℕ) (c S : List ℕ) (base sp y : ℕ) → whole ≤ n → (whole ≡ n) ⊎ (lastRow f ≡ 3) → Source (length c) base sp n h → y < h → verticalLine f whole n h c base sp y ≡ verticalLine f whole n h (c ++ S) base sp y
-unfolding verticalLine
-line-aside f whole n h c S base sp y le either s lt = go (isEdge f y h) refl
-  where
-    go : (t : Bool) → isEdge f y h ≡ t → cond t (meansOf n (fetch c (base + y * (2 * sp)) n) (fetch c (base + y * (2 * sp) + sp) n)) (innerLine f whole n c (base + y * (2 * sp)) sp) ≡ cond t (meansOf n (fetch (c ++ S) (base + y * (2 * sp)) n) (fetch (c ++ S) (base + y * (2 * sp) + sp) n)) (innerLine f whole n (c ++ S) (base + y * (2 * sp)) sp)
-    go true e =
-        let at = base + y * (2 * sp) in
-        ap (λ (x : List ℕ). meansOf n x (fetch c (at + sp) n)) (fetch-left c S at n (omega (arith, edge-reach s lt)))
-        ∙ ap (meansOf n (fetch (c ++ S) at n)) (fetch-left c S (at + sp) n (edge-reach s lt))
-    go false e = let r = inner-reach f s lt e in inner-aside f n c S (base + y * (2 * sp)) sp (r .0) (r .1) whole le either
-
--- ---- stages that stay inside the frame
-module _ {len scratch base p : ℕ} {t : Region} (w : Within len scratch base p t) where
-  source-of : (c : List ℕ) → length c ≡ len → Source (length c) base p (2 * t .width) (t .height)
-  source-of c e = subst (λ (k : ℕ). Source k base p (2 * t .width) (t .height)) (sym e) (source-within w refl)
-
-  inside-vertical : (f : ReduceFilter) → Inside len (verticalRows f (λ d. d) base p t p)
-  unfolding verticalRows
-  inside-vertical f =
-      let n = 2 * t .width in
-      let k = whole-or f n in
-      inside-steps len _ (t .height)
-      (λ y lt.
-      inside-put len (t .offset + y * p) n (λ c. verticalLine f (wholeOf f n) n (t .height) c base p y) (omega (arith, row-within w lt, w .fits))
-      (λ c. line-length f (wholeOf f n) n (t .height) c base p y (k .0))
-      (λ c S e. line-aside f (wholeOf f n) n (t .height) c S base p y (k .0) (k .1) (source-of c e) lt))
-
-  inside-horizontal : (f : ReduceFilter) → Inside len (horizontalRows f t p)
-  unfolding horizontalRows halveRun
-  inside-horizontal f =
-      inside-steps len _ (t .height)
-      (λ y lt.
-      let at = t .offset + y * p in
-      inside-put len at (t .width) (λ c. horizontalRow f (t .width) (fetch c at (2 * t .width))) (omega (arith, row-within w lt, w .fits))
-      (λ c. horizontal-length f (t .width) (fetch c at (2 * t .width)))
-      (λ c S e. ap (horizontalRow f (t .width)) (fetch-left c S at (2 * t .width) (omega (arith, row-within w lt, w .fits)))))
-
-  pub inside-stored : (f : ReduceFilter) → Inside len (fromStored f base p t)
-  unfolding fromStored
-  inside-stored f = inside-then (inside-vertical f) (inside-horizontal f)
-
-  fused-length : (v : List ℕ) → length v ≡ 2 * t .width → length (fusedLine p (t .width) v) ≡ p
-  fused-length v e =
-      let z = replicate {A = ℕ} (p - 2 * t .width) 0 in
-      length-append (horizontalRow Cubic (t .width) v) (drop (t .width) v ++ z)
-      ∙ omega (arith, horizontal-length Cubic (t .width) v, length-append (drop (t .width) v) z, length-drop (t .width) v, length-replicate {A = ℕ} (p - 2 * t .width) 0, w .fits)
-
-  pub inside-fused : Inside len (fused base p t)
-  unfolding fused
-  inside-fused =
-      let n = 2 * t .width in
-      inside-steps len _ (t .height)
-      (λ y lt.
-      inside-put len (t .offset + y * p) p (λ c. fusedLine p (t .width) (verticalLine Cubic n n (t .height) c base p y)) (row-within w lt)
-      (λ c. fused-length (verticalLine Cubic n n (t .height) c base p y) (line-length Cubic n n (t .height) c base p y (omega arith)))
-      (λ c S e. ap (fusedLine p (t .width)) (line-aside Cubic n n (t .height) c S base p y (omega arith) (inl refl) (source-of c e) lt)))
 
 -- ---- a later level, in its way
 stored-before : (q : Layout) (l : ℕ) → 1 ≤ l → (q .opts .full || leb 2 l) ≡ true → (q .opts .full ≡ true) ⊎ (1 ≤ l - 1)

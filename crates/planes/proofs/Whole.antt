@@ -1,6 +1,6 @@
 -- A build, whole: what the refusals leave; level 0's rows and planes lie in the frame; the stages one after the other; and the frame that is left. Assumes nothing.
 use mathlib.Core.Path.{_≡_, refl, sym, ap, subst, _∙_}
-use mathlib.Core.Bool.{Bool, true, false, cond, _&&_, _||_}
+use mathlib.Core.Bool.{true, false, cond, _&&_, _||_}
 use mathlib.Core.List.{List, _++_}
 use mathlib.Core.Logic.{_⊎_, inl}
 use Prim.Native.Nat.{ℕ, _+_, _*_, _-_, _≤_, _<_}
@@ -26,13 +26,12 @@ use Rattle.layouts.proofs.Choices.{cond-yes, cond-no}
 use Rattle.layouts.proofs.Loops.{row-in}
 use Rattle.layouts.proofs.Layouts.{Allowed, allowed, height-le, offset-first, level-end, width-first}
 use Rattle.layouts.proofs.Stored.{pel-more, width-some, height-some, stored-some, spill-full}
-use Rattle.builder.specs.Canvas.{fetch}
 use Rattle.builder.specs.Refining.{refine}
 use Rattle.builder.specs.Room.{Planes}
-use Rattle.builder.proofs.Runs.{fetch-length, Inside, inside-put, inside-steps}
-use Rattle.builder.proofs.Related.{Bytes, Rel}
-use Rattle.builder.proofs.Stages.{Respects, Notion}
+use Rattle.builder.proofs.Related.{Bytes, Rel, same-bytes, rel-same}
+use Rattle.builder.proofs.Stages.{Respects, still, either, Notion}
 use Rattle.builder.proofs.Placed.{Allows}
+use Rattle.builder.proofs.Inside.{Inside, beside-allows, inside-by}
 use Rattle.planes.specs.Build.{planesOf, copied, halved, refines, refined, built, builtFrame}
 use Rattle.planes.proofs.Prepared.{source-need}
 use Rattle.planes.proofs.Parts.{copied-kept}
@@ -150,23 +149,11 @@ unfolding refined
 refined-no q c e = sym (cond-no (refines q) _ c e)
 
 -- ---- the stages
-pub copied-inside : (q : Layout) {n sp len spill scratch : ℕ} (src : List ℕ) → Ready q n sp len spill scratch → 1 ≤ levelsOf q → q .opts .full ≡ true → Inside len (copied q src sp)
-unfolding copied
-copied-inside q {n} {sp} {len} src r some full =
-    let w = widthAt q 0 in
-    inside-steps len _ (heightAt q 0)
-    (λ y lt.
-    inside-put len (y * q .pitch) w (λ c. fetch src (y * sp) w) (target-row q (allowed q (r .layout)) len some (r .end) full y lt) (λ c. fetch-length src (y * sp) w) (λ c S e. refl))
-
 pub copied-placed : {E : ℕ → ℕ → Type 0} (B : Bytes E) {N : Notion E} (q : Layout) (src src' : List ℕ) {n sp len spill scratch : ℕ} → Ready q n sp len spill scratch → Allows N len → Rel E src src' → 1 ≤ levelsOf q → q .opts .full ≡ true → Respects (N .R) (copied q src sp) (copied q src' sp)
 copied-placed B {N} q src src' {sp = sp} {len = len} r A same some full = copied-kept B N q src src' sp same (λ y lt. A .takes _ _ (target-row q (allowed q (r .layout)) len some (r .end) full y lt))
 
-first-aside : (q : Layout) {n sp len spill scratch : ℕ} (src F S : List ℕ) → length F ≡ len → Ready q n sp len spill scratch → 1 ≤ levelsOf q → cond (q .opts .full) (copied q src sp F) F ++ S ≡ cond (q .opts .full) (copied q src sp (F ++ S)) (F ++ S)
-first-aside q {n} {sp} src F S e r some = go (q .opts .full) refl
-  where
-    go : (t : Bool) → q .opts .full ≡ t → cond t (copied q src sp F) F ++ S ≡ cond t (copied q src sp (F ++ S)) (F ++ S)
-    go true f = copied-inside q src r some f .aside F S e
-    go false f = refl
+first-inside : (q : Layout) (src : List ℕ) {n sp len spill scratch : ℕ} → Ready q n sp len spill scratch → 1 ≤ levelsOf q → Inside len (λ c. cond (q .opts .full) (copied q src sp c) c)
+first-inside q src {len = len} r some = inside-by (λ S. either (q .opts .full) (copied-placed same-bytes q src src r (beside-allows len S) (rel-same refl) some) (λ none. still))
 
 pub no-level : (q : Layout) (src c : List ℕ) (sp len : ℕ) → levelsOf q ≡ 0 → c ≡ built q src sp len c
 unfolding built
@@ -177,7 +164,7 @@ pub all-stages : (q : Layout) {n sp spill scratch : ℕ} (src F S F1 c2 c3 : Lis
 unfolding built
 all-stages q {n} {sp} src F S F1 c2 c3 r some kept e1 e2 e3 =
     let f = chosen (q .opts .«scale_down») in
-    let whole = ap (λ (x : List ℕ). x ++ S) e1 ∙ first-aside q src F S refl r some in
+    let whole = ap (λ (x : List ℕ). x ++ S) e1 ∙ first-inside q src r some .aside F S refl in
     e3
     ∙ ap (refined q) (e2 ∙ ap (λ (k : ℕ). halved q src sp k f (F1 ++ S)) kept ∙ ap (halved q src sp (length F) f) whole)
     ∙ sym (cond-no (eqb (levelsOf q) 0) (F ++ S) _ (ne-eqb (levelsOf q) 0 (λ z. omega (arith, z, some))))

@@ -1,11 +1,13 @@
 -- `pair_row` meets its contract. Assumes nothing.
-use mathlib.Core.Path.{ap, _∙_}
+use mathlib.Core.Path.{refl, ap, _∙_}
 use mathlib.Core.List.{List, _++_}
 use Prim.Native.Nat.{ℕ, _+_}
 use native.Mathlib.Omega.{arith}
+use lib.ListN.{length}
 use denote.Ref.{now}
 use borrow.Author.Needs.{needs}
-use Rattle.builder.proofs.Refined.{before-or-after, pair-left}
+use Rattle.builder.proofs.Refined.{before-or-after}
+use Rattle.builder.proofs.Inside.{means-inside}
 use Rattle.builder.proofs.refining.pair_row.Statement.{statement}
 use Rattle.builder.proofs.refining.pair_row.Tie as tie
 
@@ -41,7 +43,7 @@ returns c =
     let at-if1 = at-if2 .before in
     let a = at-if1 .before .before .before .before .args in
     ap (λ (x : List ℕ). x ++ now (a .spill)) (at-pair-inside .pair-inside .ensures)
-    ∙ pair-left (now (a .frame)) (now (a .spill)) (a .t) (a .l) (a .r) (a .n) (omega (arith, at-if1 .if1 .taken, at-if2 .if2 .taken)) (at-if3 .if3 .taken) (at-if2 .if2 .taken)
+    ∙ means-inside (length (now (a .frame))) (a .t) (a .l) (a .r) (a .n) (omega (arith, at-if1 .if1 .taken, at-if2 .if2 .taken)) (at-if3 .if3 .taken) (at-if2 .if2 .taken) .aside (now (a .frame)) (now (a .spill)) refl
 
 pair-apart-requires : tie.Need-pair-apart-requires
 pair-apart-requires c κs = c .before .before .before .before .before .before .before .pre

@@ -7,7 +7,7 @@ use denote.Ref.{now}
 use borrow.Author.Needs.{needs}
 use Rattle.filters.specs.declared.half_pel.Upscale.{Upscale}
 use Rattle.builder.specs.Refining.{halfPlanes}
-use Rattle.builder.proofs.Refined.{kernel-inside}
+use Rattle.builder.proofs.Inside.{kernel-inside}
 use Rattle.builder.proofs.refining.Interp.half_planes.Statement.{statement}
 use Rattle.builder.proofs.refining.Interp.half_planes.Tie as tie
 

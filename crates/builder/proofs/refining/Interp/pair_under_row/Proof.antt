@@ -8,7 +8,8 @@ use denote.Ref.{now}
 use borrow.Author.Needs.{needs}
 use Rattle.builder.specs.Canvas.{copyRun}
 use Rattle.builder.specs.Refining.{pairPlane}
-use Rattle.builder.proofs.Refined.{planes-kept, pair-fits, first-row-fits, copy-inside}
+use Rattle.builder.proofs.Refined.{planes-kept, pair-fits, first-row-fits}
+use Rattle.builder.proofs.Inside.{copy-inside}
 use Rattle.builder.proofs.refining.Interp.pair_under_row.Statement.{statement}
 use Rattle.builder.proofs.refining.Interp.pair_under_row.Tie as tie
 
