@@ -1,16 +1,16 @@
 -- One byte of the canvas through the stages of a build: what each stage leaves of it, and what it makes of the first byte of a level and the last of a row.
--- First a run that is stored anywhere; then loops over rows; copying; later levels; last the planes of level 0. Assumes nothing.
+-- First a run that is stored anywhere, and stages that leave the byte; then loops over rows; copying; later levels; last the planes of level 0. Assumes nothing.
 use mathlib.Core.Path.{_≡_, refl, ap, _∙_, subst}
-use mathlib.Core.List.{List, [], _∷_}
+use mathlib.Core.List.{List}
 use mathlib.Core.Logic.{_⊎_, inl, inr, ⊎-elim}
-use mathlib.Core.Bool.{Bool, true, false, cond, _&&_, _||_}
+use mathlib.Core.Bool.{Bool, true, false, cond, _||_}
 use Prim.Native.Nat.{ℕ, zero, suc, _+_, _*_, _-_, _≤_, _<_}
 use native.Mathlib.Nat.{zero-mul, le-of-suc-le-suc, eq-or-lt-of-le}
 use native.Mathlib.Omega.{arith}
 use lib.Dec.{leb, ltb}
 use lib.ListN.{length, getD}
 use borrow.Author.Tests.{ltb-true, le-leb}
-use Rattle.settings.proofs.Tests.{and-left, and-right, or-cases}
+use Rattle.settings.proofs.Tests.{or-cases}
 use Rattle.filters.specs.declared.halving.ReduceFilter.{ReduceFilter}
 use Rattle.filters.specs.declared.half_pel.HalfPel.{HalfPel}
 use Rattle.filters.specs.declared.half_pel.Upscale.{Upscale}
@@ -19,20 +19,26 @@ use Rattle.filters.specs.Row.{meanOf, meansOf, around}
 use Rattle.filters.specs.Halve.{horizontalAt, horizontalRow}
 use Rattle.filters.specs.Refine.{halfHorizontal, placed}
 use Rattle.filters.proofs.Tables.{tab-at}
-use Rattle.filters.proofs.Lengths.{means-length, horizontal-length, half-horizontal-length, half-vertical-length}
+use Rattle.filters.proofs.Lengths.{means-length, horizontal-length, half-horizontal-length}
 use Rattle.layouts.specs.declared.layout.Layout.{Layout}
 use Rattle.layouts.specs.declared.layout.Region.{Region}
 use Rattle.layouts.specs.Storing.{put, steps}
 use Rattle.layouts.specs.Layout.{widthAt, heightAt, offsetAt, regionAt}
-use Rattle.layouts.specs.Margins.{fusedAt}
+use Rattle.layouts.proofs.Choices.{cond-yes}
 use Rattle.layouts.proofs.Loops.{row-in}
 use Rattle.builder.specs.declared.refining.Interp.{Interp}
 use Rattle.builder.specs.declared.refining.Pair.{Pair}
 use Rattle.builder.specs.Canvas.{fetch, copyRun}
-use Rattle.builder.specs.Halving.{wholeOf, verticalLine, verticalRows, halveRun, horizontalRows, fromStored, fused, closeUp, fromSource}
-use Rattle.builder.specs.Refining.{chunked, pairRun, pairPlane, horizontalPlane, verticalRun, verticalPlane, planeAt, meanPlanes, kernelPlanes, halfPlanes, quarter, foldPairs}
+use Rattle.builder.specs.Halving.{wholeOf, verticalLine, verticalRows, halveRun, horizontalRows, fromStored, fromSource}
+use Rattle.builder.specs.Refining.{chunked, pairRun, pairPlane, horizontalPlane, planeAt, meanPlanes, kernelPlanes, halfPlanes, pairOf, quarter, foldPairs}
 use Rattle.builder.proofs.Runs.{fetch-length, fetch-at, put-grows, put-before, put-at, put-past}
+use Rattle.builder.proofs.Lines.{reads-all}
+use Rattle.builder.proofs.Refined.{cut, every, every-at}
+use Rattle.builder.proofs.Related.{Any, any-bytes, any-kernel, any-row}
+use Rattle.builder.proofs.Stages.{Keeps, after, turns, folds, Notion, OneNeed, PairNeed, UnderNeed, stored-kept, fused-kept, close-kept, source-kept, pair-kept, under-kept, means-kept, across-kept, below-kept, kernel-kept}
 use Rattle.planes.specs.Build.{copied, halveLevel}
+use Rattle.planes.proofs.Prepared.{fused-fits}
+use Rattle.planes.proofs.Parts.{copied-kept, Level, level-kept}
 
 -- ---- a run that is stored
 -- byte i is there, and is v
@@ -52,12 +58,33 @@ has-in : {v : ℕ} (c : List ℕ) (at : ℕ) (ys : List ℕ) (i j : ℕ) → i �
 has-in c at ys i j e in' lt is =
     record { there = omega (arith, put-grows c at ys); is = ap (λ (k : ℕ). getD (put c at ys) k 0) e ∙ put-at c ys at j lt ∙ is }
 
+-- n bytes at `at` lie elsewhere
+abbrev Off : ℕ → ℕ → ℕ → Type 0
+Off i at n = (i < at) ⊎ (at + n ≤ i)
+
+-- the byte stays where all that is stored does
+byte : ℕ → ℕ → Notion Any
+byte i v =
+    record {
+      R = λ c d. Has i v c;
+      Sees = λ at n. Unit;
+      Takes = Off i;
+      fewer = λ at m n le off. ⊎-elim (λ (lt : i < at). inl lt) (λ (past : at + n ≤ i). inr (omega arith)) off;
+      reads = λ c d at n r z. any-row;
+      stores = λ c d x y at n r off lx ly z. ⊎-elim (λ (lt : i < at). has-before at x lt r) (λ (past : at + n ≤ i). has-past at x (omega arith) r) off;
+    }
+
+-- stages that leave byte i as it is
+abbrev pub KeepsByte : ℕ → ℕ → (List ℕ → List ℕ) → Type 0
+KeepsByte i v = Keeps (λ c d. Has i v c)
+
+pub has-after : {i v : ℕ} {stage : List ℕ → List ℕ} {c : List ℕ} → KeepsByte i v stage → Has i v c → Has i v (stage c)
+has-after {c = c} keeps has = keeps .each c c has
+
 -- ---- loops
 -- every step keeps Q
-pub steps-keep : (Q : List ℕ → Type 0) (step : ℕ → List ℕ → List ℕ) (n : ℕ) (c : List ℕ) → ((y : ℕ) (d : List ℕ) → y < n → Q d → Q (step y d)) → Q c → Q (steps step n c)
-unfolding steps
-steps-keep Q step zero c keep q = q
-steps-keep Q step (suc n) c keep q = keep n (steps step n c) (omega arith) (steps-keep Q step n c (λ y d lt. keep y d (omega arith)) q)
+steps-keep : (Q : List ℕ → Type 0) (step : ℕ → List ℕ → List ℕ) (n : ℕ) (c : List ℕ) → ((y : ℕ) (d : List ℕ) → y < n → Q d → Q (step y d)) → Q c → Q (steps step n c)
+steps-keep Q step n c keep q = turns {R = λ d e. Q d} step step n (λ y lt. record { each = λ d e. keep y d lt }) .each c c q
 
 -- step k makes Q where G holds, which all keep; the later ones keep it
 steps-hit : (G Q : List ℕ → Type 0) (step : ℕ → List ℕ → List ℕ) (n k : ℕ) (c : List ℕ) → k < n → G c → ((y : ℕ) (d : List ℕ) → y < n → G d → G (step y d)) → ((d : List ℕ) → G d → Q (step k d)) → ((y : ℕ) (d : List ℕ) → y < n → k < y → Q d → Q (step y d)) → Q (steps step n c)
@@ -104,49 +131,31 @@ module _ (q : Layout) (src : List ℕ) (sp : ℕ) (fits : widthAt q 0 ≤ q .pit
       (λ z d m lt x. has-before (z * p) (fetch src (z * sp) w) (omega (arith, row-in y z p lt)) x)
 
   -- a byte of the margin of row 0
-  pub copied-margin : {i v : ℕ} (c : List ℕ) → w ≤ i → i < p → Has i v c → Has i v (copied q src sp c)
-  unfolding copied
-  copied-margin {i} {v} c le lt x = steps-keep (Has i v) _ h c step x
+  pub copied-margin : {i v : ℕ} → w ≤ i → i < p → KeepsByte i v (copied q src sp)
+  unfolding byte
+  copied-margin {i} {v} le lt = copied-kept any-bytes (byte i v) q src src sp any-row off
     where
-      step : (y : ℕ) (d : List ℕ) → y < h → Has i v d → Has i v (put d (y * p) (fetch src (y * sp) w))
-      step zero d m z = has-past (0 * p) (fetch src (0 * sp) w) (omega (arith, fetch-length src (0 * sp) w)) z
-      step (suc y) d m z = has-before (suc y * p) (fetch src (suc y * sp) w) (omega (arith, row-in 0 (suc y) p (omega arith))) z
+      off : (y : ℕ) → y < h → Off i (y * p) w
+      off zero m = inr (omega arith)
+      off (suc y) m = inl (omega (arith, row-in 0 (suc y) p (omega arith)))
 
   -- a byte past plane 0
-  pub copied-past : {i v : ℕ} (c : List ℕ) → h * p ≤ i → Has i v c → Has i v (copied q src sp c)
-  unfolding copied
-  copied-past {i} {v} c le x =
-      steps-keep (Has i v) _ h c (λ y d m z. has-past (y * p) (fetch src (y * sp) w) (omega (arith, fetch-length src (y * sp) w, row-in y h p m)) z) x
+  pub copied-past : {i v : ℕ} → h * p ≤ i → KeepsByte i v (copied q src sp)
+  unfolding byte
+  copied-past {i} {v} le = copied-kept any-bytes (byte i v) q src src sp any-row (λ y m. inr (omega (arith, row-in y h p m)))
 
 -- ---- later levels: bytes before a level stay
-module _ {i v : ℕ} (t : Region) (before : i < t .offset) where
-  vertical-keeps : (f : ReduceFilter) (see : List ℕ → List ℕ) (base sp step : ℕ) (c : List ℕ) → Has i v c → Has i v (verticalRows f see base sp t step c)
-  unfolding verticalRows
-  vertical-keeps f see base sp step c x = steps-keep (Has i v) _ (t .height) c (λ y d m. has-before (t .offset + y * step) _ (omega arith)) x
+pub level-off : {i v : ℕ} (q : Layout) (src : List ℕ) (sp len : ℕ) (f : ReduceFilter) (l : ℕ) → i < offsetAt q l → Level (λ c d. Has i v c) q src src sp len f l
+unfolding byte
+level-off {i} {v} q src sp len f l lt =
+    record {
+      by-fused = λ e. fused-kept any-bytes (byte i v) (offsetAt q (l - 1)) (q .pitch) (regionAt q l) (fused-fits q len l e) (λ y m. inl (omega arith)) (λ y m. reads-all (λ at n. tt));
+      by-stored = λ e. stored-kept any-bytes (byte i v) f (offsetAt q (l - 1)) (q .pitch) (regionAt q l) (λ y m. inl (omega arith)) (λ y m. tt) (λ y m. reads-all (λ at n. tt));
+      by-source = λ e. source-kept any-bytes (byte i v) f src src sp (q .pitch) (regionAt q l) any-row (λ y m. inl (omega arith)) (λ y m. tt) (λ y some m. (tt, inl (omega arith)));
+    }
 
-  horizontal-keeps : (f : ReduceFilter) (step : ℕ) (c : List ℕ) → Has i v c → Has i v (horizontalRows f t step c)
-  unfolding horizontalRows halveRun
-  horizontal-keeps f step c x = steps-keep (Has i v) _ (t .height) c (λ y d m. has-before (t .offset + y * step) _ (omega arith)) x
-
-  fused-keeps : (base p : ℕ) (c : List ℕ) → Has i v c → Has i v (fused base p t c)
-  unfolding fused
-  fused-keeps base p c x = steps-keep (Has i v) _ (t .height) c (λ y d m. has-before (t .offset + y * p) _ (omega arith)) x
-
--- and those of its first line while its lines close up
-close-keeps : {i v : ℕ} (t p h : ℕ) (c : List ℕ) → i < t + p → Has i v c → Has i v (closeUp t p h c)
-unfolding closeUp copyRun
-close-keeps {i} {v} t p h c lt x = steps-keep (Has i v) _ (h - 1) c (λ y d m. has-before (t + (y + 1) * p) _ (omega (arith, row-in 0 (y + 1) p (omega arith)))) x
-
-pub level-keeps : {i v : ℕ} (q : Layout) (src : List ℕ) (sp len : ℕ) (f : ReduceFilter) (l : ℕ) (c : List ℕ) → i < offsetAt q l → Has i v c → Has i v (halveLevel q src sp len f l c)
-unfolding halveLevel fromStored fromSource
-level-keeps {i} {v} q src sp len f l c lt x =
-    let t = regionAt q l in
-    cases (Has i v) (fusedAt q len l)
-    (λ e. fused-keeps t lt (offsetAt q (l - 1)) (q .pitch) c x)
-    (λ e.
-    cases (Has i v) (q .opts .full || leb 2 l)
-    (λ e. horizontal-keeps t lt f (q .pitch) _ (vertical-keeps t lt f (λ d. d) (offsetAt q (l - 1)) (q .pitch) (q .pitch) c x))
-    (λ e. close-keeps (offsetAt q l) (q .pitch) (heightAt q l) _ (omega arith) (horizontal-keeps t lt f (2 * q .pitch) _ (vertical-keeps t lt f (λ d. src) 0 sp (2 * q .pitch) c x))))
+pub level-keeps : {i v : ℕ} (q : Layout) (src : List ℕ) (sp len : ℕ) (f : ReduceFilter) (l : ℕ) → i < offsetAt q l → KeepsByte i v (halveLevel q src sp len f l)
+level-keeps q src sp len f l lt = level-kept q src src sp len f l (level-off q src sp len f l lt)
 
 -- ---- the first byte of a level, from four bytes that are alike
 first-line : {v : ℕ} (f : ReduceFilter) (whole n h : ℕ) (s : List ℕ) (base sp j : ℕ) → j < n → getD s (base + j) 0 ≡ v → getD s (base + sp + j) 0 ≡ v → getD (verticalLine f whole n h s base sp 0) j 0 ≡ meanOf v v
@@ -216,10 +225,11 @@ pub stored-first : (f : ReduceFilter) (base p : ℕ) (t : Region) (c : List ℕ)
 unfolding fromStored
 stored-first f base p t c hh hw hp len four = halved-first f t p hh hw hp _ (vertical-first f t p hh hw hp (λ d. d) base p c len four)
 
+-- its first line stays while the others close up
 pub source-first : (f : ReduceFilter) (src : List ℕ) (sp p : ℕ) (t : Region) (c : List ℕ) → 0 < t .height → 0 < t .width → 2 ≤ p → t .offset + 1 < length c → Four 0 sp src → Has (t .offset) 255 (fromSource f src sp p t c)
-unfolding fromSource
+unfolding fromSource byte
 source-first f src sp p t c hh hw hp len four =
-    close-keeps (t .offset) p (t .height) _ (omega arith)
+    has-after (close-kept any-bytes (byte (t .offset) 255) (t .offset) p (t .height) (λ y some m. (tt, inl (omega (arith, row-in 0 y p some)))))
     (halved-first f t (2 * p) hh hw (omega arith) _ (vertical-first f t (2 * p) hh hw (omega arith) (λ d. src) 0 sp c len four))
 
 -- ---- planes of level 0: each is written within its own bytes, where a pair's row is no wider than the pitch
@@ -232,119 +242,91 @@ module _ (i : Interp) where
     pub from : planeAt i k ≤ x
     pub to : x < planeAt i k + i .height * i .pitch
 
-module _ {x v : ℕ} (i : Interp) (k m : ℕ) (in' : In i k x) (apart : (m < k) ⊎ (k < m)) where
-  -- rows of at most a pitch, in another plane m
-  rows-keep : (n j : ℕ) (line : ℕ → List ℕ → List ℕ) → ((y : ℕ) (d : List ℕ) → length (line y d) ≡ n) → n ≤ i .pitch → j ≤ i .height → (c : List ℕ) → Has x v c → Has x v (steps (λ y d. put d (planeAt i m + y * i .pitch) (line y d)) j c)
-  rows-keep n j line len fits low c q =
+-- where byte x lies in plane k, another plane m is elsewhere
+module _ {x : ℕ} (i : Interp) (fits : i .width + 15 ≤ i .pitch) (k : ℕ) (in' : In i k x) where
+  off-plane : (m at n : ℕ) → (m < k) ⊎ (k < m) → planeAt i m ≤ at → at + n ≤ planeAt i m + i .height * i .pitch → Off x at n
+  off-plane m at n apart from to =
+      ⊎-elim (λ (a : m < k). inr (omega (arith, plane-after i m k a, in' .from))) (λ (a : k < m). inl (omega (arith, plane-after i k m a, in' .to))) apart
+
+  off-row : (m n y : ℕ) → (m < k) ⊎ (k < m) → n ≤ i .pitch → y < i .height → Off x (planeAt i m + y * i .pitch) n
+  off-row m n y apart le lt = off-plane m (planeAt i m + y * i .pitch) n apart (omega arith) (omega (arith, row-in y (i .height) (i .pitch) lt))
+
+  module _ (v : ℕ) where
+    one-off : (m rows s : ℕ) → (m < k) ⊎ (k < m) → OneNeed (byte x v) i rows (planeAt i m) s
+    unfolding byte
+    one-off m rows s apart = record { target = λ y lt. off-row m (i .width) y apart (omega arith) lt; source = λ y lt. tt }
+
+    pair-off : (m w h l r : ℕ) → (m < k) ⊎ (k < m) → w ≤ i .width → h ≤ i .height → PairNeed (byte x v) (record { pitch = i .pitch; width = w; height = h }) (planeAt i m) l r
+    unfolding byte
+    pair-off m w h l r apart narrow low = record { target = λ y lt. off-row m (chunked w) y apart (omega arith) (omega arith); left = λ y lt. tt; right = λ y lt. tt }
+
+    under-off : (m r s : ℕ) → (m < k) ⊎ (k < m) → 0 < i .height → UnderNeed (byte x v) i (planeAt i m) r s
+    unfolding byte
+    under-off m r s apart hh =
+        record {
+          pair = pair-off m (i .width) (i .height) 0 r apart (omega arith) (omega arith);
+          from = tt;
+          to = off-plane m (planeAt i m) (i .width) apart (omega arith) (omega (arith, row-in 0 (i .height) (i .pitch) hh));
+        }
+
+  -- no pair of a table writes plane k
+  pub fold-keeps : {v : ℕ} (qs : List Pair) → every (λ q. ltb (q .target) k || ltb k (q .target)) qs ≡ true → KeepsByte x v (foldPairs (quarter i) qs)
+  unfolding quarter byte
+  fold-keeps {v} qs e =
+      folds (quarter i) qs
+      (λ j lt.
+      let q = getD qs j (pairOf 0 0 0 0 0) in
+      let apart : (q .target < k) ⊎ (k < q .target) = ⊎-elim (λ (a : ltb (q .target) k ≡ true). inl (ltb-true (q .target) k a)) (λ (a : ltb k (q .target) ≡ true). inr (ltb-true k (q .target) a)) (or-cases (ltb (q .target) k) (ltb k (q .target)) (every-at _ qs e j lt)) in
+      pair-kept any-bytes (byte x v) (cut i q) _ _ _ (pair-off v (q .target) (i .width - q .across) (i .height - q .below) _ _ apart (omega arith) (omega arith)))
+
+  -- none of the three planes at half places is k
+  pub half-keeps : {v : ℕ} → 0 < i .height → (u : Upscale) (a b d : ℕ) → (a < k) ⊎ (k < a) → (b < k) ⊎ (k < b) → (d < k) ⊎ (k < d) → KeepsByte x v (halfPlanes u i a b d)
+  unfolding halfPlanes byte
+  half-keeps {v} hh Means a b d pa pb pd = means-kept any-bytes (byte x v) i a b d (pair-off v a (i .width) (i .height) 0 1 pa (omega arith) (omega arith)) (under-off v b (i .pitch) 0 pb hh) (under-off v d (i .pitch + 1) 1 pd hh)
+  half-keeps {v} hh (Kernel u) a b d pa pb pd = kernel-kept any-bytes (byte x v) u (any-kernel u) i a b d (one-off v a _ _ pa) (one-off v b _ _ pb) (one-off v d _ _ pd)
+
+-- ---- the last byte of row 0 of the horizontal plane a, which is followed by the other two
+module _ (i : Interp) (fits : i .width + 15 ≤ i .pitch) (hh : 0 < i .height) (hw : 0 < i .width) (a x : ℕ) (e : x ≡ planeAt i a + (i .width - 1)) (c : List ℕ) (long : x < length c) where
+  means-last : {s t : ℕ} → getD c (i .width - 1) 0 ≡ s → getD c (i .width) 0 ≡ t → Has x (meanOf s t) (pairPlane i (planeAt i a) 0 1 c)
+  unfolding pairPlane pairRun meansOf
+  means-last {s} {t} es et =
+      let w = i .width in
       let p = i .pitch in
-      steps-keep (Has x v) (λ y d. put d (planeAt i m + y * p) (line y d)) j c
-      (λ y d lt.
-      ⊎-elim
-      (λ (a : m < k). has-past (planeAt i m + y * p) (line y d) (omega (arith, len y d, plane-after i m k a, row-in y (i .height) p (omega arith), in' .from)))
-      (λ (a : k < m). has-before (planeAt i m + y * p) (line y d) (omega (arith, plane-after i k m a, in' .to)))
-      apart)
-      q
+      let n = chunked w in
+      let left = fetch c (0 + 0 * p) n in
+      let right = fetch c (1 + 0 * p) n in
+      steps-first (Has x (meanOf s t)) _ (i .height) c hh
+      (has-in c (planeAt i a + 0 * p) (meansOf n left right) x (w - 1) (omega arith) long (omega (arith, means-length n left right))
+      (tab-at (λ j. meanOf (getD left j 0) (getD right j 0)) n (w - 1) (omega arith)
+      ∙ ap (λ (z : ℕ). meanOf z (getD right (w - 1) 0)) (fetch-at c (0 + 0 * p) n (w - 1) (omega arith) ∙ ap (λ (z : ℕ). getD c z 0) (omega arith) ∙ es)
+      ∙ ap (meanOf s) (fetch-at c (1 + 0 * p) n (w - 1) (omega arith) ∙ ap (λ (z : ℕ). getD c z 0) (omega arith) ∙ et)))
+      (λ j d m some q. has-before (planeAt i a + j * p) _ (omega (arith, row-in 0 j p some)) q)
 
-  pair-keeps : (w h l r : ℕ) → chunked w ≤ i .pitch → h ≤ i .height → (c : List ℕ) → Has x v c → Has x v (pairPlane (record { pitch = i .pitch; width = w; height = h }) (planeAt i m) l r c)
-  unfolding pairPlane pairRun
-  pair-keeps w h l r fits low c q = rows-keep (chunked w) h _ (λ y d. means-length (chunked w) _ _) fits low c q
+  kernel-last : {s : ℕ} (u : HalfPel) → getD c (i .width - 1) 0 ≡ s → Has x s (horizontalPlane u i (planeAt i a) 0 c)
+  unfolding horizontalPlane halfHorizontal
+  kernel-last {s} u es =
+      let w = i .width in
+      let p = i .pitch in
+      let row = fetch c (0 + 0 * p) w in
+      let rule : ℕ → ℕ = λ j. around (placed u j w) row j in
+      steps-first (Has x s) _ (i .height) c hh
+      (has-in c (planeAt i a + 0 * p) (halfHorizontal u w row) x (w - 1) (omega arith) long (omega (arith, half-horizontal-length u w row))
+      (tab-at rule w (w - 1) (omega arith)
+      ∙ cond-yes (leb w (w - 1 + 1)) (getD row (w - 1) 0) _ (le-leb w (w - 1 + 1) (omega arith))
+      ∙ fetch-at c (0 + 0 * p) w (w - 1) (omega arith)
+      ∙ ap (λ (z : ℕ). getD c z 0) (omega arith)
+      ∙ es))
+      (λ j d m some q. has-before (planeAt i a + j * p) _ (omega (arith, row-in 0 j p some)) q)
 
-  across-keeps : (u : HalfPel) (s : ℕ) → i .width ≤ i .pitch → (c : List ℕ) → Has x v c → Has x v (horizontalPlane u i (planeAt i m) s c)
-  unfolding horizontalPlane
-  across-keeps u s fits c q = rows-keep (i .width) (i .height) _ (λ y d. half-horizontal-length u (i .width) _) fits (omega arith) c q
+  pub half-means : {s t : ℕ} (b d : ℕ) → a < b → a < d → In i a x → getD c (i .width - 1) 0 ≡ s → getD c (i .width) 0 ≡ t → Has x (meanOf s t) (halfPlanes Means i a b d c)
+  unfolding halfPlanes meanPlanes byte
+  half-means {s} {t} b d ab ad in' es et =
+      let v = meanOf s t in
+      let under : (m r j : ℕ) → a < m → KeepsByte x v (λ l. copyRun j (planeAt i m) (i .width) (pairPlane i (planeAt i m) 0 r l)) = λ m r j later. under-kept any-bytes (byte x v) i _ _ _ (under-off i fits a in' v m r j (inr later) hh) in
+      has-after (after (under b (i .pitch) 0 ab) (under d (i .pitch + 1) 1 ad)) (means-last es et)
 
-  below-keeps : (u : HalfPel) (s : ℕ) → i .width ≤ i .pitch → (c : List ℕ) → Has x v c → Has x v (verticalPlane u i (planeAt i m) s c)
-  unfolding verticalPlane verticalRun
-  below-keeps u s fits c q = rows-keep (i .width) (i .height) _ (λ y d. half-vertical-length u y (i .height) (i .width) _ _ _ _ _ _) fits (omega arith) c q
-
-  copy-keeps : (s : ℕ) → i .width ≤ i .pitch → 0 < i .height → (c : List ℕ) → Has x v c → Has x v (copyRun s (planeAt i m) (i .width) c)
-  unfolding copyRun
-  copy-keeps s fits hh c q =
-      ⊎-elim
-      (λ (a : m < k). has-past (planeAt i m) (fetch c s (i .width)) (omega (arith, fetch-length c s (i .width), plane-after i m k a, row-in 0 (i .height) (i .pitch) hh, in' .from)) q)
-      (λ (a : k < m). has-before (planeAt i m) (fetch c s (i .width)) (omega (arith, plane-after i k m a, in' .to)) q)
-      apart
-
-module _ (i : Interp) (fits : i .width + 15 ≤ i .pitch) where
-  chunked-fits : (w : ℕ) → w ≤ i .width → chunked w ≤ i .pitch
-  chunked-fits w le = omega arith
-
-  -- no pair of the table writes plane k
-  abbrev elsewhere : ℕ → List Pair → Bool
-  elsewhere k [] = true
-  elsewhere k (q ∷ qs) = (ltb (q .target) k || ltb k (q .target)) && elsewhere k qs
-
-  pub fold-keeps : {x v : ℕ} (k : ℕ) → In i k x → (qs : List Pair) → elsewhere k qs ≡ true → (c : List ℕ) → Has x v c → Has x v (foldPairs (quarter i) qs c)
-  unfolding foldPairs quarter
-  fold-keeps k in' [] e c has = has
-  fold-keeps k in' (q ∷ qs) e c has =
-      let here = and-left (ltb (q .target) k || ltb k (q .target)) (elsewhere k qs) e in
-      let there = and-right (ltb (q .target) k || ltb k (q .target)) (elsewhere k qs) e in
-      fold-keeps k in' qs there _
-      (pair-keeps i k (q .target) in'
-      (⊎-elim (λ (a : ltb (q .target) k ≡ true). inl (ltb-true (q .target) k a)) (λ (a : ltb k (q .target) ≡ true). inr (ltb-true k (q .target) a)) (or-cases (ltb (q .target) k) (ltb k (q .target)) here))
-      (i .width - q .across) (i .height - q .below) _ _ (chunked-fits (i .width - q .across) (omega arith)) (omega arith)
-      c has)
-
-  module _ (hh : 0 < i .height) where
-    -- the planes at half places that follow the horizontal one
-    mean-rest : {x v : ℕ} (k b d : ℕ) → In i k x → (b < k) ⊎ (k < b) → (d < k) ⊎ (k < d) → (c : List ℕ) → Has x v c → Has x v (copyRun 1 (planeAt i d) (i .width) (pairPlane i (planeAt i d) 0 (i .pitch + 1) (copyRun 0 (planeAt i b) (i .width) (pairPlane i (planeAt i b) 0 (i .pitch) c))))
-    mean-rest k b d in' pb pd c q =
-        let n = chunked-fits (i .width) (omega arith) in
-        copy-keeps i k d in' pd 1 (omega arith) hh _
-        (pair-keeps i k d in' pd (i .width) (i .height) 0 (i .pitch + 1) n (omega arith) _
-        (copy-keeps i k b in' pb 0 (omega arith) hh _ (pair-keeps i k b in' pb (i .width) (i .height) 0 (i .pitch) n (omega arith) c q)))
-
-    kernel-rest : {x v : ℕ} (u : HalfPel) (k b d : ℕ) → In i k x → (b < k) ⊎ (k < b) → (d < k) ⊎ (k < d) → (c : List ℕ) → Has x v c → Has x v (horizontalPlane u i (planeAt i d) (planeAt i b) (verticalPlane u i (planeAt i b) 0 c))
-    kernel-rest u k b d in' pb pd c q = across-keeps i k d in' pd u (planeAt i b) (omega arith) _ (below-keeps i k b in' pb u 0 (omega arith) c q)
-
-    -- none of the three is k
-    pub half-keeps : {x v : ℕ} (u : Upscale) (k a b d : ℕ) → In i k x → (a < k) ⊎ (k < a) → (b < k) ⊎ (k < b) → (d < k) ⊎ (k < d) → (c : List ℕ) → Has x v c → Has x v (halfPlanes u i a b d c)
-    unfolding halfPlanes meanPlanes kernelPlanes
-    half-keeps Means k a b d in' pa pb pd c q =
-        mean-rest k b d in' pb pd _ (pair-keeps i k a in' pa (i .width) (i .height) 0 1 (chunked-fits (i .width) (omega arith)) (omega arith) c q)
-    half-keeps (Kernel z) k a b d in' pa pb pd c q = kernel-rest z k b d in' pb pd _ (across-keeps i k a in' pa z 0 (omega arith) c q)
-
-    -- ---- the last byte of row 0 of the horizontal plane a, which is followed by the other two
-    module _ (hw : 0 < i .width) (a x : ℕ) (e : x ≡ planeAt i a + (i .width - 1)) (c : List ℕ) (long : x < length c) where
-      means-last : {s t : ℕ} → getD c (i .width - 1) 0 ≡ s → getD c (i .width) 0 ≡ t → Has x (meanOf s t) (pairPlane i (planeAt i a) 0 1 c)
-      unfolding pairPlane pairRun meansOf
-      means-last {s} {t} es et =
-          let w = i .width in
-          let p = i .pitch in
-          let n = chunked w in
-          let left = fetch c (0 + 0 * p) n in
-          let right = fetch c (1 + 0 * p) n in
-          steps-first (Has x (meanOf s t)) _ (i .height) c hh
-          (has-in c (planeAt i a + 0 * p) (meansOf n left right) x (w - 1) (omega arith) long (omega (arith, means-length n left right))
-          (tab-at (λ j. meanOf (getD left j 0) (getD right j 0)) n (w - 1) (omega arith)
-          ∙ ap (λ (z : ℕ). meanOf z (getD right (w - 1) 0)) (fetch-at c (0 + 0 * p) n (w - 1) (omega arith) ∙ ap (λ (z : ℕ). getD c z 0) (omega arith) ∙ es)
-          ∙ ap (meanOf s) (fetch-at c (1 + 0 * p) n (w - 1) (omega arith) ∙ ap (λ (z : ℕ). getD c z 0) (omega arith) ∙ et)))
-          (λ j d m some q. has-before (planeAt i a + j * p) _ (omega (arith, row-in 0 j p some)) q)
-
-      kernel-last : {s : ℕ} (u : HalfPel) → getD c (i .width - 1) 0 ≡ s → Has x s (horizontalPlane u i (planeAt i a) 0 c)
-      unfolding horizontalPlane halfHorizontal
-      kernel-last {s} u es =
-          let w = i .width in
-          let p = i .pitch in
-          let row = fetch c (0 + 0 * p) w in
-          let rule : ℕ → ℕ = λ j. around (placed u j w) row j in
-          steps-first (Has x s) _ (i .height) c hh
-          (has-in c (planeAt i a + 0 * p) (halfHorizontal u w row) x (w - 1) (omega arith) long (omega (arith, half-horizontal-length u w row))
-          (tab-at rule w (w - 1) (omega arith)
-          ∙ copy (leb w (w - 1 + 1)) (getD row (w - 1) 0) _ (le-leb w (w - 1 + 1) (omega arith))
-          ∙ fetch-at c (0 + 0 * p) w (w - 1) (omega arith)
-          ∙ ap (λ (z : ℕ). getD c z 0) (omega arith)
-          ∙ es))
-          (λ j d m some q. has-before (planeAt i a + j * p) _ (omega (arith, row-in 0 j p some)) q)
-        where
-          copy : (t : Bool) (m n : ℕ) → t ≡ true → cond t m n ≡ m
-          copy t m n z = rw z
-
-      pub half-means : {s t : ℕ} (b d : ℕ) → a < b → a < d → In i a x → getD c (i .width - 1) 0 ≡ s → getD c (i .width) 0 ≡ t → Has x (meanOf s t) (halfPlanes Means i a b d c)
-      unfolding halfPlanes meanPlanes
-      half-means b d ab ad in' es et = mean-rest a b d in' (inr ab) (inr ad) _ (means-last es et)
-
-      pub half-kernel : {s : ℕ} (u : HalfPel) (b d : ℕ) → a < b → a < d → In i a x → getD c (i .width - 1) 0 ≡ s → Has x s (halfPlanes (Kernel u) i a b d c)
-      unfolding halfPlanes kernelPlanes
-      half-kernel u b d ab ad in' es = kernel-rest u a b d in' (inr ab) (inr ad) _ (kernel-last u es)
+  pub half-kernel : {s : ℕ} (u : HalfPel) (b d : ℕ) → a < b → a < d → In i a x → getD c (i .width - 1) 0 ≡ s → Has x s (halfPlanes (Kernel u) i a b d c)
+  unfolding halfPlanes kernelPlanes byte
+  half-kernel {s} u b d ab ad in' es =
+      let one : (m rows from : ℕ) → a < m → OneNeed (byte x s) i rows (planeAt i m) from = λ m rows from later. one-off i fits a in' s m rows from (inr later) in
+      has-after (after (below-kept any-bytes (byte x s) u (any-kernel u) i _ _ (one b _ _ ab)) (across-kept any-bytes (byte x s) u (any-kernel u) i _ _ (one d _ _ ad))) (kernel-last u es)

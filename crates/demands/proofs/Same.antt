@@ -31,6 +31,7 @@ use Rattle.layouts.specs.Layout.{levelsOf, storedAt, offsetAt, spillNeed, scrat
 use Rattle.layouts.specs.Margins.{fusedAt}
 use Rattle.layouts.specs.Numbers.{layoutNo, lentNo, buildNo}
 use Rattle.builder.specs.Refining.{refine}
+use Rattle.builder.proofs.Stages.{turns}
 use Rattle.planes.specs.Build.{planesOf, copied, halveLevel, halved, refines, refined, built, builtFrame}
 use Rattle.demands.specs.Demands.{Given, layoutOf, SameBuild, withDown, withUp, Builds, leaves, Leaves}
 
@@ -70,9 +71,7 @@ module _ (r : SuperOpts) (d u : ℤ) (g : Given) where
   offset-same (suc l) = rw (offset-same l, stored-same l)
 
 steps-same : (f g : ℕ → List ℕ → List ℕ) (n : ℕ) (c : List ℕ) → ((i : ℕ) (d : List ℕ) → f i d ≡ g i d) → steps f n c ≡ steps g n c
-unfolding steps
-steps-same f g zero c same = refl
-steps-same f g (suc n) c same = same n (steps f n c) ∙ ap (g n) (steps-same f g n c same)
+steps-same f g n c same = turns {R = λ d e. d ≡ e} f g n (λ i lt. record { each = λ d e is. same i d ∙ ap (g i) is }) .each c c refl
 
 level-up : (r : SuperOpts) (u : ℤ) (g : Given) (len : ℕ) (f : ReduceFilter) (l : ℕ) (c : List ℕ) → halveLevel (layoutOf (withUp r u) g) (g .src) (g .sp) len f l c ≡ halveLevel (layoutOf r g) (g .src) (g .sp) len f l c
 unfolding halveLevel fusedAt

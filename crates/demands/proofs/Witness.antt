@@ -8,10 +8,10 @@ use mathlib.Core.Logic.{_⊎_, inl, ⊎-elim}
 use Prim.Native.Nat.{ℕ, suc, _+_, _*_, _-_, _≤_, _<_}
 use native.Mathlib.Nat.{mul-comm, mul-assoc, one-mul}
 use native.Mathlib.Omega.{arith}
-use lib.Dec.{ltb}
+use lib.Dec.{ltb, eqb}
 use lib.ListN.{length, getD, replicate, length-append, length-replicate, getD-replicate, List·getD-append}
 use lib.Seq.{getD-take}
-use borrow.Author.Tests.{ne-eqb}
+use borrow.Author.Tests.{eqb-true, ne-eqb, eqb-false}
 use Rattle.settings.specs.declared.super_opts.SuperOpts.{SuperOpts}
 use Rattle.settings.specs.Numbers.{total, isNat, toNat}
 use Rattle.settings.specs.Sizes.{reduced}
@@ -35,9 +35,12 @@ use Rattle.layouts.proofs.Layouts.{offset-first, offset-mono}
 use Rattle.layouts.proofs.Stored.{pel-some, pel-more, sides}
 use Rattle.builder.specs.declared.refining.Interp.{Interp}
 use Rattle.builder.specs.Refining.{pairs, planeAt, halfPlanes, refine}
+use Rattle.builder.proofs.Refined.{pel-four}
+use Rattle.builder.proofs.Stages.{refine-kept}
 use Rattle.planes.specs.Build.{planesOf, copied, halveLevel, halved, refines, refined, built, builtFrame}
+use Rattle.planes.proofs.Parts.{halved-kept, refined-kept}
 use Rattle.demands.specs.Demands.{Given, leaves}
-use Rattle.demands.proofs.Kept.{Has, Four, In, cases, steps-keep, steps-first, copied-grows, copied-has, copied-margin, copied-past, level-keeps, stored-first, source-first, plane-after, fold-keeps, half-keeps, half-means, half-kernel}
+use Rattle.demands.proofs.Kept.{Has, KeepsByte, has-after, Four, In, cases, steps-first, copied-grows, copied-has, copied-margin, copied-past, level-off, level-keeps, stored-first, source-first, plane-after, fold-keeps, half-keeps, half-means, half-kernel}
 
 -- ---- an accepted record with a level is 4 by 4 at least
 pub sizes : (r : SuperOpts) → accepted r ≡ true → 1 ≤ levelCount r → (4 ≤ lumaW r) × (4 ≤ lumaH r)
@@ -50,17 +53,14 @@ unfolding built
 built-is Q q src sp len c some x = rw (ne-eqb (levelsOf q) 0 (λ e. omega arith)) x
 
 -- a byte past all planes of level 0
-refine-keeps : {x v : ℕ} (i : Interp) (pel : ℕ) (u : Upscale) → (pel ≡ 2) ⊎ (pel ≡ 4) → i .width + 15 ≤ i .pitch → 0 < i .height → In i (pel * pel) x → (c : List ℕ) → Has x v c → Has x v (refine i pel u c)
-unfolding refine
-refine-keeps {x} {v} i pel u both fits hh in' c has =
-    ⊎-elim
-    (λ (e : pel ≡ 2).
-    let in4 : In i 4 x = subst (λ (k : ℕ). In i (k * k) x) e in' in
-    rw e (half-keeps i fits hh u 4 1 2 3 in4 (inl (omega arith)) (inl (omega arith)) (inl (omega arith)) c has))
-    (λ (e : pel ≡ 4).
-    let in16 : In i 16 x = subst (λ (k : ℕ). In i (k * k) x) e in' in
-    rw e (fold-keeps i fits 16 in16 pairs refl _ (half-keeps i fits hh u 16 2 8 10 in16 (inl (omega arith)) (inl (omega arith)) (inl (omega arith)) c has)))
-    both
+refine-keeps : {x v : ℕ} (i : Interp) (pel : ℕ) (u : Upscale) → (pel ≡ 2) ⊎ (pel ≡ 4) → i .width + 15 ≤ i .pitch → 0 < i .height → In i (pel * pel) x → KeepsByte x v (refine i pel u)
+refine-keeps {x} i pel u both fits hh in' =
+    let two : eqb pel 2 ≡ true → In i 4 x = λ e. subst (λ (k : ℕ). In i (k * k) x) (eqb-true pel 2 e) in' in
+    let four : eqb pel 2 ≡ false → In i 16 x = λ e. subst (λ (k : ℕ). In i (k * k) x) (pel-four both (eqb-false pel 2 e)) in' in
+    refine-kept i pel u
+    (λ e. half-keeps i fits 4 (two e) hh u 1 2 3 (inl (omega arith)) (inl (omega arith)) (inl (omega arith)))
+    (λ e. half-keeps i fits 16 (four e) hh u 2 8 10 (inl (omega arith)) (inl (omega arith)) (inl (omega arith)))
+    (λ e. fold-keeps i fits 16 (four e) pairs refl)
 
 -- pel 2 has its horizontal plane at 1, pel 4 at 2
 abbrev pub Placed : ℕ → ℕ → Type 0
@@ -79,7 +79,7 @@ module _ (i : Interp) (fits : i .width + 15 ≤ i .pitch) (hh : 0 < i .height) (
       (λ (z : (pel ≡ 4) × (a ≡ 2)).
       let in2 : In i 2 x = subst (λ (k : ℕ). In i k x) (z .1) in' in
       let e2 : x ≡ planeAt i 2 + (i .width - 1) = e ∙ ap (λ (k : ℕ). planeAt i k + (i .width - 1)) (z .1) in
-      rw (z .0) (fold-keeps i fits 2 in2 pairs refl _ (made 2 8 10 (omega arith) (omega arith) in2 e2)))
+      rw (z .0) (has-after (fold-keeps i fits 2 in2 pairs refl) (made 2 8 10 (omega arith) (omega arith) in2 e2)))
       at
 
   refine-means : {s t : ℕ} → getD c (i .width - 1) 0 ≡ s → getD c (i .width) 0 ≡ t → Has x (meanOf s t) (refine i pel Means c)
@@ -218,15 +218,13 @@ module _ (x : SuperOpts) (good : accepted x ≡ true) (lv : 1 ≤ levelCount x) 
   first = cond (x .full) (copied q S W canvas) canvas
 
   -- ---- level 1's first byte
-  refined-flat : {v : ℕ} (d : List ℕ) → Has t1 v d → Has t1 v (refined q d)
-  unfolding refined
-  refined-flat {v} d has =
-      cases (Has t1 v) (refines q)
+  refined-flat : {v : ℕ} → KeepsByte t1 v (refined q)
+  refined-flat =
+      refined-kept q
       (λ e.
       let full = and-right (ltb 1 (pelOf x) && ltb (toNat (x .gpu)) 2) (x .full) e in
       let more = and-left (ltb 1 (pelOf x)) (ltb (toNat (x .gpu)) 2) (and-left (ltb 1 (pelOf x) && ltb (toNat (x .gpu)) 2) (x .full) e) in
-      refine-keeps (planesOf q) (pelOf x) (upscale (x .«scale_up»)) (pel-more q good more) (omega (arith, w-is)) (omega (arith, h-is, hh)) (level1-in full) d has)
-      (λ e. has)
+      refine-keeps (planesOf q) (pelOf x) (upscale (x .«scale_up»)) (pel-more q good more) (omega (arith, w-is)) (omega (arith, h-is, hh)) (level1-in full))
 
   module _ (two : 2 ≤ levelCount x) where
     past-end : t1 + P ≤ end
@@ -237,12 +235,12 @@ module _ (x : SuperOpts) (good : accepted x ≡ true) (lv : 1 ≤ levelCount x) 
     unfolding halved
     left =
         let has = zeros-at end (spillNeed q) t1 (omega (arith, past-end)) in
-        cases (Has t1 0) (x .full) (λ e. copied-past q S W (omega (arith, w-is)) canvas (level1-past e) has) (λ e. has)
+        cases (Has t1 0) (x .full) (λ e. has-after (copied-past q S W (omega (arith, w-is)) (level1-past e)) has) (λ e. has)
 
     pub unwritten : chosen (x .«scale_down») ≡ NoFilter → getD (leaves x (flat x end)) t1 0 ≡ 0
     unwritten none =
         frame-byte t1 0 (omega (arith, past-end))
-        (built-is (Has t1 0) q S W len canvas lv (refined-flat _ (subst (λ (z : Chosen). Has t1 0 (halved q S W len z first)) (sym none) left)))
+        (built-is (Has t1 0) q S W len canvas lv (has-after refined-flat (subst (λ (z : Chosen). Has t1 0 (halved q S W len z first)) (sym none) left)))
 
     -- average
     four-first : x .full ≡ true → Four 0 P first
@@ -267,20 +265,16 @@ module _ (x : SuperOpts) (good : accepted x ≡ true) (lv : 1 ≤ levelCount x) 
     unfolding halved
     averaged other =
         steps-first (Has t1 255) (λ i. halveLevel q S W len Average (i + 1)) (levelCount x - 1) first (omega arith) (level-one other)
-        (λ y d m some has. level-keeps q S W len Average (y + 1) d (omega (arith, level2-at, offset-mono q 2 (y + 1) (omega arith))) has)
+        (λ y d m some has. has-after (level-keeps q S W len Average (y + 1) (omega (arith, level2-at, offset-mono q 2 (y + 1) (omega arith)))) has)
 
     pub written : chosen (x .«scale_down») ≡ Filter Average → isNat (x .«scale_down») 4 ≡ false → getD (leaves x (flat x end)) t1 0 ≡ 255
     written average other =
         frame-byte t1 255 (omega (arith, past-end))
-        (built-is (Has t1 255) q S W len canvas lv (refined-flat _ (subst (λ (z : Chosen). Has t1 255 (halved q S W len z first)) (sym average) (averaged other))))
+        (built-is (Has t1 255) q S W len canvas lv (has-after refined-flat (subst (λ (z : Chosen). Has t1 255 (halved q S W len z first)) (sym average) (averaged other))))
 
   -- ---- the last byte of row 0 of the horizontal plane
-  halved-keeps : {i v : ℕ} (ch : Chosen) (c : List ℕ) → i < t1 → Has i v c → Has i v (halved q S W len ch c)
-  unfolding halved
-  halved-keeps {i} {v} (Filter f) c lt has =
-      steps-keep (Has i v) (λ y. halveLevel q S W len f (y + 1)) (levelCount x - 1) c
-      (λ y d m. level-keeps q S W len f (y + 1) d (omega (arith, offset-mono q 1 (y + 1) (omega arith)))) has
-  halved-keeps NoFilter c lt has = has
+  halved-keeps : {i v : ℕ} (ch : Chosen) → i < t1 → KeepsByte i v (halved q S W len ch)
+  halved-keeps ch lt = halved-kept q S S W len (λ f l some there. level-off q S W len f l (omega (arith, offset-mono q 1 l some))) ch
 
   module _ (on : refines q ≡ true) (a : ℕ) (at : Placed (pelOf x) a) where
     full : x .full ≡ true
@@ -310,13 +304,13 @@ module _ (x : SuperOpts) (good : accepted x ≡ true) (lv : 1 ≤ levelCount x) 
     before = halved q S W len (chosen (x .«scale_down»)) first
 
     through : {i v : ℕ} → i < t1 → Has i v (copied q S W canvas) → Has i v before
-    through {i} {v} lt has = halved-keeps (chosen (x .«scale_down»)) first lt (subst (λ (b : Bool). Has i v (cond b (copied q S W canvas) canvas)) (sym full) has)
+    through {i} {v} lt has = has-after (halved-keeps (chosen (x .«scale_down»)) lt) (subst (λ (b : Bool). Has i v (cond b (copied q S W canvas) canvas)) (sym full) has)
 
     zero-byte : (i : ℕ) → i < t1 → Has i 0 canvas
     zero-byte i lt = zeros-at end (spillNeed q) i (omega (arith, level1-end))
 
     has-room : Has lastAt 0 before
-    has-room = through last-high (copied-past q S W (omega (arith, w-is)) canvas last-low (zero-byte lastAt last-high))
+    has-room = through last-high (has-after (copied-past q S W (omega (arith, w-is)) last-low) (zero-byte lastAt last-high))
 
     plane0 : W < t1
     plane0 = omega (arith, level1-past full, row-in 0 (heightAt q 0) P (omega (arith, h-is, hh)))
@@ -327,7 +321,7 @@ module _ (x : SuperOpts) (good : accepted x ≡ true) (lv : 1 ≤ levelCount x) 
         ap (λ (z : ℕ). getD before (z - 1) 0) w-is ∙ through lt (copied-flat 0 (W - 1) (W - 1) canvas (omega (arith, hh)) (omega (arith, hw)) (omega arith) (zero-byte (W - 1) lt .there)) .is
 
     at-next : getD before (widthAt q 0) 0 ≡ 0
-    at-next = ap (λ (z : ℕ). getD before z 0) w-is ∙ through plane0 (copied-margin q S W (omega (arith, w-is)) canvas (omega (arith, w-is)) (omega arith) (zero-byte W plane0)) .is
+    at-next = ap (λ (z : ℕ). getD before z 0) w-is ∙ through plane0 (has-after (copied-margin q S W (omega (arith, w-is)) (omega (arith, w-is)) (omega arith)) (zero-byte W plane0)) .is
 
     last-by : (v : ℕ) (u : Upscale) → upscale (x .«scale_up») ≡ u → Has lastAt v (refine (planesOf q) (pelOf x) u before) → getD (leaves x (flat x end)) lastAt 0 ≡ v
     unfolding refined

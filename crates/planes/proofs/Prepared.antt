@@ -79,28 +79,33 @@ module _ (q : Layout) (len l : ℕ) (e : fusedAt q len l ≡ true) where
   unfolding fusedAt
   both = e
 
-  fits-all : (leb 8 (widthAt q l) && leb 2 (heightAt q l) && eqb (2 * widthAt q l % 8) 0 && leb (2 * widthAt q l) (q .pitch) && leb (offsetAt q (l - 1) + (2 * heightAt q l - 1) * q .pitch + 2 * widthAt q l) (offsetAt q l) && leb (offsetAt q l + (heightAt q l - 1) * q .pitch + 2 * widthAt q l) len) ≡ true
-  unfolding cubicFits
-  fits-all = and-right (isNat (q .opts .«scale_down») 4 && (q .opts .full || leb 2 l)) (cubicFits (offsetAt q (l - 1)) (q .pitch) (regionAt q l) len) both
-
   pub fused-stored : (q .opts .full || leb 2 l) ≡ true
   fused-stored = and-right (isNat (q .opts .«scale_down») 4) (q .opts .full || leb 2 l) (and-left (isNat (q .opts .«scale_down») 4 && (q .opts .full || leb 2 l)) (cubicFits (offsetAt q (l - 1)) (q .pitch) (regionAt q l) len) both)
 
-  -- its row is of whole eights
-  pub fused-whole : wholeOf Cubic (2 * widthAt q l) ≡ 2 * widthAt q l
-  fused-whole =
+  -- what it says of a row
+  row-says : (leb 8 (widthAt q l) && leb 2 (heightAt q l) && eqb (2 * widthAt q l % 8) 0 && leb (2 * widthAt q l) (q .pitch)) ≡ true
+  unfolding cubicFits
+  row-says =
       let w = widthAt q l in
       let h = heightAt q l in
       let p = q .pitch in
-      let t = offsetAt q l in
-      let wide = leb 8 w && leb 2 h in
-      let eights = eqb (2 * w % 8) 0 in
-      let fits = leb (2 * w) p in
-      let source = leb (offsetAt q (l - 1) + (2 * h - 1) * p + 2 * w) t in
-      let target = leb (t + (h - 1) * p + 2 * w) len in
-      let all : (wide && eights && fits && source && target) ≡ true = fits-all in
-      let zero' = eqb-true (2 * w % 8) 0 (and-right wide eights (and-left (wide && eights) fits (and-left (wide && eights && fits) source (and-left (wide && eights && fits && source) target all)))) in
+      let row = leb 8 w && leb 2 h && eqb (2 * w % 8) 0 && leb (2 * w) p in
+      let source = leb (offsetAt q (l - 1) + (2 * h - 1) * p + 2 * w) (offsetAt q l) in
+      let target = leb (offsetAt q l + (h - 1) * p + 2 * w) len in
+      let all : (row && source && target) ≡ true = and-right (isNat (q .opts .«scale_down») 4 && (q .opts .full || leb 2 l)) (cubicFits (offsetAt q (l - 1)) p (regionAt q l) len) both in
+      and-left row source (and-left (row && source) target all)
+
+  -- it is of whole eights
+  pub fused-whole : wholeOf Cubic (2 * widthAt q l) ≡ 2 * widthAt q l
+  fused-whole =
+      let n = 2 * widthAt q l in
+      let large = leb 8 (widthAt q l) && leb 2 (heightAt q l) in
+      let zero' = eqb-true (n % 8) 0 (and-right large (eqb (n % 8) 0) (and-left (large && eqb (n % 8) 0) (leb n (q .pitch)) row-says)) in
       omega arith
+
+  -- and no longer than the pitch
+  pub fused-fits : 2 * widthAt q l ≤ q .pitch
+  fused-fits = let n = 2 * widthAt q l in leb-true n (q .pitch) (and-right (leb 8 (widthAt q l) && leb 2 (heightAt q l) && eqb (n % 8) 0) (leb n (q .pitch)) row-says)
 
 -- ---- a later level, in its way
 stored-before : (q : Layout) (l : ℕ) → 1 ≤ l → (q .opts .full || leb 2 l) ≡ true → (q .opts .full ≡ true) ⊎ (1 ≤ l - 1)
