@@ -1,11 +1,5 @@
 -- What is proved of the definitions of specs/ and used by the proofs of the functions:
---     Putting    an answer put at the front of a slice, whole or part after part
---     Telling    what a call tells, by the answer of the call that it makes
 --     Spelled    what reading a longhand record leaves in its slices
---     Records    numbers that are no record's are refused by 6; a record's numbers are that record's
 --     Unique     one outcome for each call
-pub mod Putting
-pub mod Telling
 pub mod Spelled
-pub mod Records
 pub mod Unique

@@ -15,9 +15,10 @@ use Rattle.settings.proofs.Known.{number-some, number-not-16, number-of}
 use Rattle.settings.proofs.Tests.{or-false-left, or-false-right}
 use Rattle.longhands.specs.declared.longhand.Longhand.{Longhand}
 use Rattle.longhands.specs.Longhand.{lengthOf, kindOf, placeAfter, bodyOf, kindLength, isBody, frameNo, longhandNo, noLonghand, longhandAnswer}
-use Rattle.exports.specs.Numbers.{numbersOf}
-use Rattle.exports.specs.Answers.{lowest, tells, longhandReadNo, fieldsTells, placeTells}
-use Rattle.exports.proofs.Putting.{put-fits}
+use Rattle.answers.specs.Fields.{numbersOf}
+use Rattle.answers.specs.Lent.{lowest, tells}
+use Rattle.exports.specs.Calls.{longhandReadNo, fieldsTells, placeTells}
+use Rattle.answers.proofs.Putting.{put-fits}
 
 -- ---- the number: none of reading's is below 15
 abbrev low : ℕ → Bool

@@ -1,23 +1,35 @@
-// A plane of a frame: where its levels and rows lie, what a build needs, clearing margins, and the build.
+// A plane of a frame: its layout by numbers; where its levels and rows lie, what a build needs, clearing margins, and the build.
 ghost use mathlib.Core.Path.{_≡_};
 ghost use Rattle.settings.specs.Answers.{answer};
 ghost use Rattle.layouts.specs.Answers.{clearAnswer};
 ghost use Rattle.planes.specs.Answers.{planeNo, buildAnswer, lentAfter};
-ghost use Rattle.exports.specs.Numbers.{layoutOf};
-ghost use Rattle.exports.specs.Answers.{regionsTells, endTells, needsTells, rowTells};
-use crate::record::layout_of;
-use crate::room::COLUMNS;
-use crate::room::lowest;
-use crate::room::number;
-use crate::room::put_columns;
-use crate::room::put_sizes;
+ghost use Rattle.exports.specs.Calls.{layoutOf};
+ghost use Rattle.exports.specs.Calls.{regionsTells, endTells, needsTells, rowTells};
+use answers::record::record_of;
+use answers::room::COLUMNS;
+use answers::room::lowest;
+use answers::room::number;
+use answers::room::put_columns;
+use answers::room::put_sizes;
 use layouts::layout::Ended;
+use layouts::layout::Layout;
 use layouts::layout::Needed;
 use layouts::margins::clear_margins;
 use layouts::rows::Placed;
 use layouts::rows::row_place;
 use planes::build::build_plane;
 use settings::refusal::Tested;
+
+fn layout_of(fields: &[i32], x_shift: u32, y_shift: u32, pitch: usize) -> Layout
+    ensures { λ r. ⌜ r ≡ layoutOf (now (fields .entry)) «x_shift» «y_shift» pitch ⌝ }
+{
+    Layout {
+        opts: record_of(fields),
+        x_shift,
+        y_shift,
+        pitch,
+    }
+}
 
 // Tells the count of levels, then 13 offsets, widths and heights. Refusals 6, 7, 8, 15.
 #[no_mangle]

@@ -1,85 +1,29 @@
 // Settings, records and words.
 // First the check, then a record's calls, then a word's; last the super sizes.
 ghost use mathlib.Core.Path.{_≡_};
-ghost use Prim.Native.Nat.{_/_, _%_, _≤_};
-ghost use lib.Dec.{eqb};
-ghost use lib.IntN.{pos};
 ghost use Rattle.settings.specs.Numbers.{bit};
-ghost use Rattle.settings.specs.Check.{intOr, recordNo};
+ghost use Rattle.settings.specs.Check.{recordNo};
 ghost use Rattle.settings.specs.Reading.{alike};
 ghost use Rattle.settings.specs.Answers.{answer};
-ghost use Rattle.exports.specs.Numbers.{flag, intIf, boolIf, settingsOf, recordOf, isTold, toldNumbers};
-ghost use Rattle.exports.specs.Answers.{checkTells, packTells, readTells, sizesTells};
-use crate::record::FIELDS;
-use crate::record::flag;
-use crate::record::numbers_of;
-use crate::record::record_of;
-use crate::room::lowest;
-use crate::room::put_numbers;
-use crate::room::put_word;
+ghost use Rattle.answers.specs.Fields.{settingsOf, recordOf};
+ghost use Rattle.exports.specs.Calls.{checkTells, packTells, readTells, sizesTells};
+use answers::given::settings_of;
+use answers::record::FIELDS;
+use answers::record::numbers_of;
+use answers::record::record_of;
+use answers::room::lowest;
+use answers::room::put_numbers;
+use answers::room::put_word;
+use answers::told::TOLD;
+use answers::told::told_numbers;
 use settings::refusal::Refusal;
 use settings::super_opts::Checked;
-use settings::super_opts::OptBool;
-use settings::super_opts::OptInt;
 use settings::super_opts::Packed;
-use settings::super_opts::Settings;
 use settings::super_opts::Sized;
 use settings::super_opts::SuperOpts;
-use settings::word::Description;
 use settings::word::Told;
 use settings::word::prepare_alike;
 use settings::word::read_word;
-
-// How many numbers a word tells.
-const TOLD: usize = 12;
-
-fn is_given(given: u32, place: u32) -> bool
-    requires { ⌜ 1 ≤ place ⌝ }
-    ensures { λ r. ⌜ r ≡ eqb (given / place % 2) 1 ⌝ }
-{
-    given / place % 2 == 1
-}
-
-fn int_if(given: bool, z: i32) -> OptInt
-    ensures { λ r. ⌜ r ≡ intIf given z ⌝ }
-{
-    if given {
-        return OptInt::Given(z);
-    }
-    OptInt::Absent
-}
-
-fn bool_if(given: bool, z: i32) -> OptBool
-    ensures { λ r. ⌜ r ≡ boolIf given z ⌝ }
-{
-    if given {
-        return OptBool::Given(z != 0);
-    }
-    OptBool::Absent
-}
-
-fn settings_of(
-    given: u32,
-    pel: i32,
-    gpu: i32,
-    down: i32,
-    up: i32,
-    full: i32,
-    rc: i32,
-    lean: i32,
-) -> Settings
-    ensures { λ r. ⌜ r ≡ settingsOf given pel gpu down up full rc lean ⌝ }
-{
-    Settings {
-        pel: int_if(is_given(given, 1), pel),
-        gpu: int_if(is_given(given, 2), gpu),
-        down: int_if(is_given(given, 4), down),
-        up: int_if(is_given(given, 8), up),
-        full: bool_if(is_given(given, 16), full),
-        rc: bool_if(is_given(given, 32), rc),
-        lean: bool_if(is_given(given, 64), lean),
-    }
-}
 
 // Bit k of given says that the k-th of the seven settings is there. Tells the record's numbers. Refusals 1 to 5, 15.
 #[no_mangle]
@@ -127,45 +71,6 @@ pub extern "C" fn sill_pack_data(fields: &[i32], word: &mut [u64]) -> u32
         Packed::Word(w) => put_word(word, w),
         Packed::Refused(f) => lowest(f, word.len(), 1),
     }
-}
-
-fn is_told(z: OptInt) -> bool
-    ensures { λ r. ⌜ r ≡ isTold z ⌝ }
-{
-    match z {
-        OptInt::Given(_) => true,
-        OptInt::Absent => false,
-    }
-}
-
-fn told_or_0(z: OptInt) -> i32
-    ensures { λ r. ⌜ r ≡ intOr z (pos 0) ⌝ }
-{
-    match z {
-        OptInt::Given(z) => z,
-        OptInt::Absent => 0,
-    }
-}
-
-fn told_numbers(d: Description) -> [i32; TOLD]
-    ensures { λ r. ⌜ r ≡ toldNumbers d ⌝ }
-{
-    let down = d.down;
-    let up = d.up;
-    [
-        d.width,
-        d.height,
-        d.pel,
-        d.levels,
-        d.gpu,
-        flag(d.full),
-        flag(d.rc),
-        flag(d.lean),
-        flag(is_told(down)),
-        told_or_0(down),
-        flag(is_told(up)),
-        told_or_0(up),
-    ]
 }
 
 // Tells width, height, pel, levels, gpu, full, rc, lean, and of down and up whether they matter and which they are. Refusals 15, 20 to 22.

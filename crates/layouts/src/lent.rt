@@ -12,6 +12,7 @@ use crate::levels::height;
 use crate::levels::offset;
 use crate::levels::tested;
 use crate::levels::width;
+use settings::refusal::BadLent;
 use settings::refusal::Refusal;
 use settings::refusal::Tested;
 
@@ -69,10 +70,10 @@ fn lent_tested(
     let beyond = spill_need(layout);
     let room = scratch_need(layout);
     Tested::Fine
-        .then_refuse(src < source, Refusal::Source)
-        .then_refuse(frame < end, Refusal::Frame)
-        .then_refuse(spill < beyond, Refusal::Spill)
-        .then_refuse(scratch < room, Refusal::Scratch)
+        .then_refuse(src < source, Refusal::Lent(BadLent::Source))
+        .then_refuse(frame < end, Refusal::Lent(BadLent::Frame))
+        .then_refuse(spill < beyond, Refusal::Lent(BadLent::Spill))
+        .then_refuse(scratch < room, Refusal::Lent(BadLent::Scratch))
 }
 
 // Refusals 6 to 13, by the lengths of what is lent.
@@ -91,7 +92,7 @@ pub fn build_tested(
         return t;
     };
     if bad_pitch(src_pitch, width(layout, 0)) {
-        return Tested::Refused(Refusal::SourcePitch);
+        return Tested::Refused(Refusal::Lent(BadLent::SourcePitch));
     }
     lent_tested(layout, src, src_pitch, frame, spill, scratch)
 }

@@ -10,6 +10,8 @@ use crate::layout::Ended;
 use crate::layout::Layout;
 use crate::layout::Region;
 use settings::limits::MOST_PITCH;
+use settings::refusal::BadLayout;
+use settings::refusal::BadLent;
 use settings::refusal::Refusal;
 use settings::refusal::Tested;
 use settings::super_opts::reduce_dim;
@@ -82,8 +84,11 @@ pub(crate) fn tested(layout: Layout) -> Tested
     let bad = bad_pitch(layout.pitch, least);
     Tested::Fine
         .then_refuse(!record, Refusal::NoRecord)
-        .then_refuse((layout.x_shift > 1) | (layout.y_shift > 1), Refusal::Shift)
-        .then_refuse(bad, Refusal::Pitch)
+        .then_refuse(
+            (layout.x_shift > 1) | (layout.y_shift > 1),
+            Refusal::Layout(BadLayout::Shift),
+        )
+        .then_refuse(bad, Refusal::Layout(BadLayout::Pitch))
 }
 
 // Where a level lies; at the count of levels, where the last one ends.
@@ -103,7 +108,7 @@ pub(crate) fn frame_tested(layout: Layout, len: usize) -> Tested
     ensures { λ r. ⌜ tested r ≡ frameNo layout len ⌝ }
 {
     match layout.written_end() {
-        Ended::End(end) => Tested::Fine.then_refuse(len < end, Refusal::Frame),
+        Ended::End(end) => Tested::Fine.then_refuse(len < end, Refusal::Lent(BadLent::Frame)),
         Ended::Refused(f) => Tested::Refused(f),
     }
 }

@@ -9,7 +9,8 @@ use lib.Dec.{eqb, ltb}
 use lib.ListN.{length, take, drop, length-append, length-drop, take-append-drop}
 use lib.Seq.{take-add, take-at, length-take-le}
 use borrow.Author.Tests.{eqb-true, ltb-true, ltb-false, lt-ltb, le-ltb, not-false}
-use Rattle.settings.specs.declared.refusal.Refusal.the-variants.{Length}
+use Rattle.settings.specs.declared.refusal.Refusal.the-variants.{Longhand as OfLonghand}
+use Rattle.settings.specs.declared.refusal.BadLonghand.the-variants.{Length}
 use Rattle.settings.specs.declared.super_opts.SuperOpts.{SuperOpts}
 use Rattle.settings.specs.Numbers.{isI32, refuse, _then_}
 use Rattle.settings.specs.Check.{accepted}
@@ -166,7 +167,7 @@ module _ (l rest : List ℕ) (field : 4 ≤ length l) (own : placeAfter l ≤ le
   -- a length below 2 is refused before any kind is read
   below-2 : (x : List ℕ) → 4 ≤ length x → placeAfter x ≤ length x → lengthOf x < 2 → answer 17 (noLonghand 0) ≡ longhandAnswer x
   unfolding frameNo
-  below-2 x f o h = frame-refused x Length (rw (le-ltb (length x) 4 f, le-ltb (length x) (placeAfter x) o, lt-ltb (lengthOf x) 2 h))
+  below-2 x f o h = frame-refused x (OfLonghand Length) (rw (le-ltb (length x) 4 f, le-ltb (length x) (placeAfter x) o, lt-ltb (lengthOf x) 2 h))
 
   same-by : (t : Bool) → ltb (lengthOf l) 2 ≡ t → longhandAnswer m ≡ longhandAnswer l
   same-by true e =

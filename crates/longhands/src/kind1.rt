@@ -13,6 +13,7 @@ use crate::little_endian::number_4;
 use settings::numbers::bit;
 use settings::numbers::from_bits;
 use settings::numbers::to_bits;
+use settings::refusal::BadLonghand;
 use settings::refusal::Refusal;
 use settings::super_opts::Checked;
 use settings::super_opts::SuperOpts;
@@ -67,7 +68,7 @@ pub fn read_body(body: &[u8]) -> Checked
     if good {
         return Checked::Accepted(opts);
     }
-    Checked::Refused(Refusal::Contents)
+    Checked::Refused(Refusal::Longhand(BadLonghand::Contents))
 }
 
 fn spelled(body: &[u8]) -> SuperOpts

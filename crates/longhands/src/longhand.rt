@@ -15,6 +15,7 @@ use crate::little_endian::bytes_4;
 use crate::little_endian::number_2;
 use crate::little_endian::number_4;
 use crate::little_endian::put;
+use settings::refusal::BadLonghand;
 use settings::refusal::Refusal;
 use settings::refusal::Tested;
 use settings::super_opts::Checked;
@@ -61,12 +62,15 @@ fn frame_tested(bytes: &[u8]) -> Tested
     ensures { λ r. ⌜ tested r ≡ frameNo (now (bytes .entry)) ⌝ }
 {
     if bytes.len() < LENGTH {
-        return Tested::Refused(Refusal::Short);
+        return Tested::Refused(Refusal::Longhand(BadLonghand::Short));
     }
     let length = number_4(bytes, 0) as usize;
     Tested::Fine
-        .then_refuse(bytes.len() < LENGTH + length, Refusal::Short)
-        .then_refuse(length < 2, Refusal::Length)
+        .then_refuse(
+            bytes.len() < LENGTH + length,
+            Refusal::Longhand(BadLonghand::Short),
+        )
+        .then_refuse(length < 2, Refusal::Longhand(BadLonghand::Length))
 }
 
 fn read_kind(bytes: &[u8]) -> Read
@@ -85,7 +89,7 @@ fn read_kind_1(bytes: &[u8]) -> Read
 {
     let length = number_4(bytes, 0) as usize;
     if length != KIND_1_LENGTH {
-        return Read::Refused(Refusal::Length);
+        return Read::Refused(Refusal::Longhand(BadLonghand::Length));
     }
     let after = LENGTH + length;
     match read_body(&bytes[FRAME..after]) {
@@ -102,7 +106,7 @@ pub fn write_longhand(opts: SuperOpts, out: &mut [u8]) -> Tested
         return Tested::Refused(Refusal::NoRecord);
     }
     if out.len() < RECORD {
-        return Tested::Refused(Refusal::Short);
+        return Tested::Refused(Refusal::Longhand(BadLonghand::Short));
     }
     put_framed(out, KIND_1, &body(opts));
     Tested::Fine

@@ -7,7 +7,12 @@ use borrow.Author.Tests.{ne-eqb}
 use lib.Dec.{eqb}
 use lib.IntN.{pos}
 use Rattle.settings.specs.declared.refusal.Refusal.{Refusal}
-use Rattle.settings.specs.declared.refusal.Refusal.the-variants.{Pel, Gpu, Finest, Lean, Side, NoRecord, Shift, Pitch, SourcePitch, Source, Frame, Spill, Scratch, Levels, Short, Length, Contents, NoRow, NoCode, Halving, Upscale}
+use Rattle.settings.specs.declared.refusal.Refusal.the-variants.{Setting, NoRecord, Layout, Lent, Levels, Longhand, NoRow, Word as BadCode}
+use Rattle.settings.specs.declared.refusal.BadSetting.the-variants.{Pel, Gpu, Finest, Lean, Side}
+use Rattle.settings.specs.declared.refusal.BadLayout.the-variants.{Shift, Pitch}
+use Rattle.settings.specs.declared.refusal.BadLent.the-variants.{SourcePitch, Source, Frame, Spill, Scratch}
+use Rattle.settings.specs.declared.refusal.BadLonghand.the-variants.{Short, Length, Contents}
+use Rattle.settings.specs.declared.refusal.BadWord.the-variants.{NoCode, Halving, Upscale}
 use Rattle.settings.specs.declared.refusal.Tested.{Tested}
 use Rattle.settings.specs.declared.refusal.Tested.the-variants.{Fine, Refused as TestRefused}
 use Rattle.settings.specs.declared.super_opts.Checked.{Checked}
@@ -24,34 +29,34 @@ use Rattle.settings.specs.Answers.{Answer, answer, complete, number, tes
 -- ---- a refusal's number tells which refusal it is, and is not 0
 -- the refusal of a number
 abbrev pub refusalOf : ℕ → Refusal
-refusalOf n = cond (eqb n 1) Pel (cond (eqb n 2) Gpu (cond (eqb n 3) Finest (cond (eqb n 4) Lean (cond (eqb n 5) Side (cond (eqb n 6) NoRecord (cond (eqb n 7) Shift (cond (eqb n 8) Pitch (cond (eqb n 9) SourcePitch (cond (eqb n 10) Source (cond (eqb n 11) Frame (cond (eqb n 12) Spill (cond (eqb n 13) Scratch (cond (eqb n 14) Levels (cond (eqb n 15) Short (cond (eqb n 17) Length (cond (eqb n 18) Contents (cond (eqb n 19) NoRow (cond (eqb n 20) NoCode (cond (eqb n 21) Halving (Upscale))))))))))))))))))))
+refusalOf n = cond (eqb n 1) (Setting Pel) (cond (eqb n 2) (Setting Gpu) (cond (eqb n 3) (Setting Finest) (cond (eqb n 4) (Setting Lean) (cond (eqb n 5) (Setting Side) (cond (eqb n 6) NoRecord (cond (eqb n 7) (Layout Shift) (cond (eqb n 8) (Layout Pitch) (cond (eqb n 9) (Lent SourcePitch) (cond (eqb n 10) (Lent Source) (cond (eqb n 11) (Lent Frame) (cond (eqb n 12) (Lent Spill) (cond (eqb n 13) (Lent Scratch) (cond (eqb n 14) Levels (cond (eqb n 15) (Longhand Short) (cond (eqb n 17) (Longhand Length) (cond (eqb n 18) (Longhand Contents) (cond (eqb n 19) NoRow (cond (eqb n 20) (BadCode NoCode) (cond (eqb n 21) (BadCode Halving) ((BadCode Upscale)))))))))))))))))))))
 
 pub number-back : (f : Refusal) → refusalOf (number f) ≡ f
-number-back Pel = refl
-number-back Gpu = refl
-number-back Finest = refl
-number-back Lean = refl
-number-back Side = refl
+number-back (Setting Pel) = refl
+number-back (Setting Gpu) = refl
+number-back (Setting Finest) = refl
+number-back (Setting Lean) = refl
+number-back (Setting Side) = refl
 number-back NoRecord = refl
-number-back Shift = refl
-number-back Pitch = refl
-number-back SourcePitch = refl
-number-back Source = refl
-number-back Frame = refl
-number-back Spill = refl
-number-back Scratch = refl
+number-back (Layout Shift) = refl
+number-back (Layout Pitch) = refl
+number-back (Lent SourcePitch) = refl
+number-back (Lent Source) = refl
+number-back (Lent Frame) = refl
+number-back (Lent Spill) = refl
+number-back (Lent Scratch) = refl
 number-back Levels = refl
-number-back Short = refl
-number-back Length = refl
-number-back Contents = refl
+number-back (Longhand Short) = refl
+number-back (Longhand Length) = refl
+number-back (Longhand Contents) = refl
 number-back NoRow = refl
-number-back NoCode = refl
-number-back Halving = refl
-number-back Upscale = refl
+number-back (BadCode NoCode) = refl
+number-back (BadCode Halving) = refl
+number-back (BadCode Upscale) = refl
 
 -- a number that goes back to the last refusal alone is the last's or none's
-none-of : (f : Refusal) (n : ℕ) → refusalOf n ≡ Upscale → (n ≡ 22 → ⊥) → number f ≡ n → ⊥
-none-of f n back other e = let last : f ≡ Upscale = sym (number-back f) ∙ ap refusalOf e ∙ back in other (sym e ∙ ap number last)
+none-of : (f : Refusal) (n : ℕ) → refusalOf n ≡ BadCode Upscale → (n ≡ 22 → ⊥) → number f ≡ n → ⊥
+none-of f n back other e = let last : f ≡ BadCode Upscale = sym (number-back f) ∙ ap refusalOf e ∙ back in other (sym e ∙ ap number last)
 
 number-not-0 : (f : Refusal) → number f ≡ 0 → ⊥
 number-not-0 f = none-of f 0 refl (λ e. omega arith)

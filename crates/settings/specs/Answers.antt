@@ -7,7 +7,17 @@ use lib.Dec.{eqb}
 use lib.IntN.{ℤ, pos}
 use lib.ListN.{length, drop}
 use Rattle.settings.specs.declared.refusal.Refusal.{Refusal}
-use Rattle.settings.specs.declared.refusal.Refusal.the-variants.{Pel, Gpu, Finest, Lean, Side, NoRecord, Shift, Pitch, SourcePitch, Source, Frame, Spill, Scratch, Levels, Short, Length, Contents, NoRow, NoCode, Halving, Upscale}
+use Rattle.settings.specs.declared.refusal.Refusal.the-variants.{Setting, NoRecord, Layout, Lent, Levels, Longhand, NoRow, Word as BadCode}
+use Rattle.settings.specs.declared.refusal.BadSetting.{BadSetting}
+use Rattle.settings.specs.declared.refusal.BadSetting.the-variants.{Pel, Gpu, Finest, Lean, Side}
+use Rattle.settings.specs.declared.refusal.BadLayout.{BadLayout}
+use Rattle.settings.specs.declared.refusal.BadLayout.the-variants.{Shift, Pitch}
+use Rattle.settings.specs.declared.refusal.BadLent.{BadLent}
+use Rattle.settings.specs.declared.refusal.BadLent.the-variants.{SourcePitch, Source, Frame, Spill, Scratch}
+use Rattle.settings.specs.declared.refusal.BadLonghand.{BadLonghand}
+use Rattle.settings.specs.declared.refusal.BadLonghand.the-variants.{Short, Length, Contents}
+use Rattle.settings.specs.declared.refusal.BadWord.{BadWord}
+use Rattle.settings.specs.declared.refusal.BadWord.the-variants.{NoCode, Halving, Upscale}
 use Rattle.settings.specs.declared.refusal.Tested.{Tested}
 use Rattle.settings.specs.declared.refusal.Tested.the-variants.{Fine, Refused as TestRefused}
 use Rattle.settings.specs.declared.super_opts.OptInt.the-variants.{Absent as NoInt}
@@ -27,29 +37,44 @@ use Rattle.settings.specs.Check.{settled, settingsNo, recordNo, superHei
 use Rattle.settings.specs.Word.{packNo, wordOf}
 use Rattle.settings.specs.Reading.{candidate, readNo, describe}
 
--- "Numbers a call can give"
+-- "Numbers a call can give", and document 02's, by what is at fault
+abbrev pub settingNumber : BadSetting → ℕ
+settingNumber Pel = 1
+settingNumber Gpu = 2
+settingNumber Finest = 3
+settingNumber Lean = 4
+settingNumber Side = 5
+
+abbrev pub layoutNumber : BadLayout → ℕ
+layoutNumber Shift = 7
+layoutNumber Pitch = 8
+
+abbrev pub lentNumber : BadLent → ℕ
+lentNumber SourcePitch = 9
+lentNumber Source = 10
+lentNumber Frame = 11
+lentNumber Spill = 12
+lentNumber Scratch = 13
+
+abbrev pub longhandNumber : BadLonghand → ℕ
+longhandNumber Short = 15
+longhandNumber Length = 17
+longhandNumber Contents = 18
+
+abbrev pub wordNumber : BadWord → ℕ
+wordNumber NoCode = 20
+wordNumber Halving = 21
+wordNumber Upscale = 22
+
 abbrev pub number : Refusal → ℕ
-number Pel = 1
-number Gpu = 2
-number Finest = 3
-number Lean = 4
-number Side = 5
+number (Setting f) = settingNumber f
 number NoRecord = 6
-number Shift = 7
-number Pitch = 8
-number SourcePitch = 9
-number Source = 10
-number Frame = 11
-number Spill = 12
-number Scratch = 13
+number (Layout f) = layoutNumber f
+number (Lent f) = lentNumber f
 number Levels = 14
-number Short = 15
-number Length = 17
-number Contents = 18
+number (Longhand f) = longhandNumber f
 number NoRow = 19
-number NoCode = 20
-number Halving = 21
-number Upscale = 22
+number (BadCode f) = wordNumber f
 
 -- a number, and the value that goes with it
 pub record Answer (A : Type 0) : Type 0 where

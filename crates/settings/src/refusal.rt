@@ -1,30 +1,52 @@
 // Why a call is refused, as documents 01 and 02 number it.
-// First the refusals and the answer of a test; then the number of a refusal; last a row of refusals, put together one by one.
+// First the refusals and the answer of a test; then the number of each group and of a refusal; last a row of refusals, put together one by one.
+// No group has more than 16 cases: up to that the checker finds the proof of its numbers by itself.
 ghost use mathlib.Core.Path.{_≡_};
 ghost use lib.Dec.{eqb};
 ghost use Rattle.settings.specs.Numbers.{refuse, _then_};
-ghost use Rattle.settings.specs.Answers.{number, tested};
+ghost use Rattle.settings.specs.Answers.{settingNumber, layoutNumber, lentNumber, longhandNumber, wordNumber, number, tested};
 
-// Why a call is refused: "Numbers a call can give" of document 01, in its order, and 15, 17 and 18 of document 02.
+// Why a call is refused: "Numbers a call can give" of document 01, and those of document 02, by what is at fault.
 pub enum Refusal {
+    Setting(BadSetting),
+    NoRecord,
+    Layout(BadLayout),
+    Lent(BadLent),
+    Levels,
+    Longhand(BadLonghand),
+    NoRow,
+    Word(BadWord),
+}
+
+pub enum BadSetting {
     Pel,
     Gpu,
     Finest,
     Lean,
     Side,
-    NoRecord,
+}
+
+pub enum BadLayout {
     Shift,
     Pitch,
+}
+
+// Of what a call is lent.
+pub enum BadLent {
     SourcePitch,
     Source,
     Frame,
     Spill,
     Scratch,
-    Levels,
+}
+
+pub enum BadLonghand {
     Short,
     Length,
     Contents,
-    NoRow,
+}
+
+pub enum BadWord {
     NoCode,
     Halving,
     Upscale,
@@ -36,32 +58,82 @@ pub enum Tested {
     Refused(Refusal),
 }
 
+impl BadSetting {
+    fn number(self) -> u32
+        ensures { λ r. ⌜ r ≡ settingNumber self ⌝ }
+    {
+        match self {
+            BadSetting::Pel => 1,
+            BadSetting::Gpu => 2,
+            BadSetting::Finest => 3,
+            BadSetting::Lean => 4,
+            BadSetting::Side => 5,
+        }
+    }
+}
+
+impl BadLayout {
+    fn number(self) -> u32
+        ensures { λ r. ⌜ r ≡ layoutNumber self ⌝ }
+    {
+        match self {
+            BadLayout::Shift => 7,
+            BadLayout::Pitch => 8,
+        }
+    }
+}
+
+impl BadLent {
+    fn number(self) -> u32
+        ensures { λ r. ⌜ r ≡ lentNumber self ⌝ }
+    {
+        match self {
+            BadLent::SourcePitch => 9,
+            BadLent::Source => 10,
+            BadLent::Frame => 11,
+            BadLent::Spill => 12,
+            BadLent::Scratch => 13,
+        }
+    }
+}
+
+impl BadLonghand {
+    fn number(self) -> u32
+        ensures { λ r. ⌜ r ≡ longhandNumber self ⌝ }
+    {
+        match self {
+            BadLonghand::Short => 15,
+            BadLonghand::Length => 17,
+            BadLonghand::Contents => 18,
+        }
+    }
+}
+
+impl BadWord {
+    fn number(self) -> u32
+        ensures { λ r. ⌜ r ≡ wordNumber self ⌝ }
+    {
+        match self {
+            BadWord::NoCode => 20,
+            BadWord::Halving => 21,
+            BadWord::Upscale => 22,
+        }
+    }
+}
+
 impl Refusal {
     pub fn number(self) -> u32
         ensures { λ r. ⌜ r ≡ number self ⌝ }
     {
         match self {
-            Refusal::Pel => 1,
-            Refusal::Gpu => 2,
-            Refusal::Finest => 3,
-            Refusal::Lean => 4,
-            Refusal::Side => 5,
+            Refusal::Setting(f) => f.number(),
             Refusal::NoRecord => 6,
-            Refusal::Shift => 7,
-            Refusal::Pitch => 8,
-            Refusal::SourcePitch => 9,
-            Refusal::Source => 10,
-            Refusal::Frame => 11,
-            Refusal::Spill => 12,
-            Refusal::Scratch => 13,
+            Refusal::Layout(f) => f.number(),
+            Refusal::Lent(f) => f.number(),
             Refusal::Levels => 14,
-            Refusal::Short => 15,
-            Refusal::Length => 17,
-            Refusal::Contents => 18,
+            Refusal::Longhand(f) => f.number(),
             Refusal::NoRow => 19,
-            Refusal::NoCode => 20,
-            Refusal::Halving => 21,
-            Refusal::Upscale => 22,
+            Refusal::Word(f) => f.number(),
         }
     }
 }

@@ -14,6 +14,7 @@ use crate::limits::MOST_PACKED;
 use crate::limits::MOST_SIDE;
 use crate::numbers::bit;
 use crate::numbers::natural;
+use crate::refusal::BadSetting;
 use crate::refusal::Refusal;
 use crate::refusal::Tested;
 
@@ -175,11 +176,11 @@ impl SuperOpts {
         let width = is_side(self.width);
         let height = is_side(self.height);
         Tested::Fine
-            .then_refuse(!pel, Refusal::Pel)
-            .then_refuse(!gpu, Refusal::Gpu)
-            .then_refuse(finest, Refusal::Finest)
-            .then_refuse(lean, Refusal::Lean)
-            .then_refuse(!width | !height, Refusal::Side)
+            .then_refuse(!pel, Refusal::Setting(BadSetting::Pel))
+            .then_refuse(!gpu, Refusal::Setting(BadSetting::Gpu))
+            .then_refuse(finest, Refusal::Setting(BadSetting::Finest))
+            .then_refuse(lean, Refusal::Setting(BadSetting::Lean))
+            .then_refuse(!width | !height, Refusal::Setting(BadSetting::Side))
     }
 
     fn no_finest(self) -> bool

@@ -7,6 +7,7 @@ ghost use lib.Dec.{eqb};
 ghost use lib.IntN.{pos};
 ghost use Rattle.settings.specs.Reading.{candidate, isCode, readNo, upMatters, downMatters, tellIf, describe, bare, alike};
 ghost use Rattle.settings.specs.Answers.{tested, told, readAnswer};
+use crate::refusal::BadWord;
 use crate::refusal::Refusal;
 use crate::refusal::Tested;
 use crate::super_opts::OptInt;
@@ -92,9 +93,9 @@ fn tested(r: SuperOpts, word: u64) -> Tested
     let halving = down_matters(r) & (r.scale_down != 4);
     let upscale = up_matters(r) & (r.gpu == 0);
     Tested::Fine
-        .then_refuse(!code, Refusal::NoCode)
-        .then_refuse(halving, Refusal::Halving)
-        .then_refuse(upscale, Refusal::Upscale)
+        .then_refuse(!code, Refusal::Word(BadWord::NoCode))
+        .then_refuse(halving, Refusal::Word(BadWord::Halving))
+        .then_refuse(upscale, Refusal::Word(BadWord::Upscale))
 }
 
 fn is_code(r: SuperOpts, word: u64) -> bool

@@ -5,7 +5,7 @@ use lib.IntN.{ℤ}
 use denote.Ref.{now}
 use borrow.Author.Needs.{needs}
 use Rattle.longhands.specs.Longhand.{readAs}
-use Rattle.exports.specs.Answers.{tells}
+use Rattle.answers.specs.Lent.{tells}
 use Rattle.exports.proofs.Spelled.{left-short, left-record, left-unknown, left-refused}
 use Rattle.exports.proofs.longhand.sill_longhand_read.Statement.{statement}
 use Rattle.exports.proofs.longhand.sill_longhand_read.Tie as tie

@@ -11,10 +11,9 @@ use Rattle.layouts.specs.declared.layout.Laid.{Laid}
 use Rattle.layouts.specs.Layout.{levelsOf, regionOr, noRegion}
 use Rattle.layouts.specs.Answers.{Columns, columns}
 use Rattle.layouts.proofs.Known.{columns-full}
-use Rattle.exports.specs.Numbers.{columnNumbers}
-use Rattle.exports.specs.Answers.{regionsTells}
-use Rattle.exports.proofs.Telling.{tell-refused, tell-given}
-use Rattle.exports.proofs.Putting.{columns-long}
+use Rattle.exports.specs.Calls.{columnNumbers, regionsTells}
+use Rattle.answers.proofs.Telling.{tell-refused, tell-given}
+use Rattle.answers.proofs.Putting.{columns-long}
 use Rattle.exports.proofs.plane.sill_level_regions.Statement.{statement}
 use Rattle.exports.proofs.plane.sill_level_regions.Tie as tie
 

@@ -5,9 +5,8 @@ use borrow.Author.Needs.{needs}
 use Rattle.settings.proofs.Known.{number-of}
 use Rattle.layouts.specs.declared.layout.Layout.{Layout}
 use Rattle.layouts.specs.Answers.{needed, needsOf, noNeeds}
-use Rattle.exports.specs.Numbers.{needNumbers}
-use Rattle.exports.specs.Answers.{needsTells}
-use Rattle.exports.proofs.Telling.{tell-refused, tell-given}
+use Rattle.exports.specs.Calls.{needNumbers, needsTells}
+use Rattle.answers.proofs.Telling.{tell-refused, tell-given}
 use Rattle.exports.proofs.plane.sill_needs.Statement.{statement}
 use Rattle.exports.proofs.plane.sill_needs.Tie as tie
 

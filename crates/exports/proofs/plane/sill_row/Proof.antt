@@ -5,9 +5,8 @@ use borrow.Author.Needs.{needs}
 use Rattle.settings.proofs.Known.{number-of}
 use Rattle.layouts.specs.declared.layout.Layout.{Layout}
 use Rattle.layouts.specs.Answers.{placed, runOf, noRun}
-use Rattle.exports.specs.Numbers.{runNumbers}
-use Rattle.exports.specs.Answers.{rowTells}
-use Rattle.exports.proofs.Telling.{tell-refused, tell-given}
+use Rattle.exports.specs.Calls.{runNumbers, rowTells}
+use Rattle.answers.proofs.Telling.{tell-refused, tell-given}
 use Rattle.exports.proofs.plane.sill_row.Statement.{statement}
 use Rattle.exports.proofs.plane.sill_row.Tie as tie
 

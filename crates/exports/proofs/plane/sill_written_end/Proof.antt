@@ -8,8 +8,8 @@ use Rattle.settings.proofs.Known.{number-of}
 use Rattle.layouts.specs.declared.layout.Layout.{Layout}
 use Rattle.layouts.specs.Layout.{writtenEnd}
 use Rattle.layouts.specs.Answers.{ended}
-use Rattle.exports.specs.Answers.{endTells}
-use Rattle.exports.proofs.Telling.{tell-refused, tell-given}
+use Rattle.exports.specs.Calls.{endTells}
+use Rattle.answers.proofs.Telling.{tell-refused, tell-given}
 use Rattle.exports.proofs.plane.sill_written_end.Statement.{statement}
 use Rattle.exports.proofs.plane.sill_written_end.Tie as tie
 

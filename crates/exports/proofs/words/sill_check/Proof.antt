@@ -5,9 +5,9 @@ use borrow.Author.Needs.{needs}
 use Rattle.settings.specs.Check.{settled}
 use Rattle.settings.specs.Answers.{checked, checkAnswer, noRecord}
 use Rattle.settings.proofs.Integers.{same}
-use Rattle.exports.specs.Numbers.{numbersOf, settingsOf}
+use Rattle.answers.specs.Fields.{numbersOf, settingsOf}
 use Rattle.settings.proofs.Known.{number-of}
-use Rattle.exports.proofs.Telling.{tell-refused, tell-given}
+use Rattle.answers.proofs.Telling.{tell-refused, tell-given}
 use Rattle.exports.proofs.words.sill_check.Statement.{statement}
 use Rattle.exports.proofs.words.sill_check.Tie as tie
 

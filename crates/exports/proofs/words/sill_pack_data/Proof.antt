@@ -7,9 +7,9 @@ use borrow.Author.Needs.{needs}
 use Rattle.settings.specs.declared.super_opts.SuperOpts.{SuperOpts}
 use Rattle.settings.specs.Word.{wordOf}
 use Rattle.settings.specs.Answers.{packed}
-use Rattle.exports.specs.Answers.{packTells}
+use Rattle.exports.specs.Calls.{packTells}
 use Rattle.settings.proofs.Known.{number-of}
-use Rattle.exports.proofs.Telling.{tell-refused, tell-given}
+use Rattle.answers.proofs.Telling.{tell-refused, tell-given}
 use Rattle.exports.proofs.words.sill_pack_data.Statement.{statement}
 use Rattle.exports.proofs.words.sill_pack_data.Tie as tie
 

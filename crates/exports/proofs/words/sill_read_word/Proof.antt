@@ -4,9 +4,9 @@ use denote.Ref.{now}
 use borrow.Author.Needs.{needs}
 use Rattle.settings.specs.Reading.{candidate, describe}
 use Rattle.settings.specs.Answers.{told, noDescription}
-use Rattle.exports.specs.Numbers.{toldNumbers}
+use Rattle.answers.specs.Fields.{toldNumbers}
 use Rattle.settings.proofs.Known.{number-of}
-use Rattle.exports.proofs.Telling.{tell-refused, tell-given}
+use Rattle.answers.proofs.Telling.{tell-refused, tell-given}
 use Rattle.exports.proofs.words.sill_read_word.Statement.{statement}
 use Rattle.exports.proofs.words.sill_read_word.Tie as tie
 

@@ -12,9 +12,10 @@ use Rattle.settings.specs.declared.super_opts.SuperOpts.{SuperOpts}
 use Rattle.settings.specs.Check.{superHeight, superWidth, recordNo}
 use Rattle.settings.specs.Answers.{answer, number, sized}
 use Rattle.settings.proofs.Integers.{same}
-use Rattle.exports.specs.Answers.{lowest, sizesTells}
+use Rattle.answers.specs.Lent.{lowest}
+use Rattle.exports.specs.Calls.{sizesTells}
 use Rattle.settings.proofs.Known.{number-of, value-given}
-use Rattle.exports.proofs.Telling.{tell-refused, tell-given}
+use Rattle.answers.proofs.Telling.{tell-refused, tell-given}
 use Rattle.exports.proofs.words.sill_super_sizes.Statement.{statement}
 use Rattle.exports.proofs.words.sill_super_sizes.Tie as tie
 

@@ -6,7 +6,8 @@ use lib.ListN.{getD}
 use native.Mathlib.Omega.{arith}
 use denote.Ref.{now}
 use borrow.Author.Needs.{needs}
-use Rattle.settings.specs.declared.refusal.Refusal.the-variants.{Contents}
+use Rattle.settings.specs.declared.refusal.Refusal.the-variants.{Longhand as OfLonghand}
+use Rattle.settings.specs.declared.refusal.BadLonghand.the-variants.{Contents}
 use Rattle.settings.specs.Numbers.{refuse}
 use Rattle.settings.specs.Answers.{answer, noRecord}
 use Rattle.settings.proofs.Known.{given, refused}
@@ -38,7 +39,7 @@ returns c =
 returns-2 : tie.Need-returns-2
 returns-2 c =
     let l = now (c .before .before .before .before .before .args .body) in
-    refused (refuse (not (kind1Good l)) 18) Contents (kind1Record l) noRecord (rw (← good (c .before), c .if1 .left))
+    refused (refuse (not (kind1Good l)) 18) (OfLonghand Contents) (kind1Record l) noRecord (rw (← good (c .before), c .if1 .left))
 
 pub read-body-spec : {M : Type 1} → statement M
 read-body-spec =

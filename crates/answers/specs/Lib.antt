@@ -1,0 +1,6 @@
+-- What the library's calls take and tell, as definitions. In the order to read them:
+--     Fields     the numbers of settings, of a record, and of what a word tells
+--     Lent       the number of a call, and what it leaves in the slice that is lent for its answer
+-- What is proved of these is in proofs/.
+pub mod Fields
+pub mod Lent

@@ -1,0 +1,74 @@
+-- The library's calls: the number of each, and what it leaves in the slices that are lent for its answer. "The lowest number that applies is given, and none other"; "no refusal changes a lent byte", but for the place that reading a longhand record tells with 16.
+-- First the numbers of a layout, and of regions, needs and places; then the calls; last reading a longhand record.
+use mathlib.Core.Bool.{cond, _||_}
+use mathlib.Core.List.{List, [], _∷_, _++_}
+use Prim.Native.Nat.{ℕ}
+use lib.Dec.{eqb, ltb}
+use lib.IntN.{ℤ, pos}
+use lib.ListN.{length}
+use Rattle.settings.specs.declared.super_opts.Settings.{Settings}
+use Rattle.settings.specs.declared.super_opts.SuperOpts.{SuperOpts}
+use Rattle.settings.specs.Check.{settled, settingsNo, recordNo, superHeight, superWidth}
+use Rattle.settings.specs.Word.{packNo, wordOf}
+use Rattle.settings.specs.Reading.{candidate, readNo, describe}
+use Rattle.settings.specs.Answers.{Answer, answer, complete, written}
+use Rattle.longhands.specs.Longhand.{longhandNo, longhandAnswer}
+use Rattle.layouts.specs.declared.layout.Layout.{Layout}
+use Rattle.layouts.specs.declared.layout.Needs.{Needs}
+use Rattle.layouts.specs.declared.rows.Run.{Run}
+use Rattle.layouts.specs.Layout.{levelsOf, regionOr, writtenEnd}
+use Rattle.layouts.specs.Numbers.{layoutNo, rowNo}
+use Rattle.layouts.specs.Answers.{Columns, columns, needsOf, runOf}
+use Rattle.answers.specs.Fields.{numbersOf, recordOf, toldNumbers}
+use Rattle.answers.specs.Lent.{lowest, tells}
+
+-- ---- the numbers
+abbrev pub layoutOf : List ℤ → ℕ → ℕ → ℕ → Layout
+layoutOf l xs ys p = record { opts = recordOf l; «x_shift» = xs; «y_shift» = ys; pitch = p }
+
+abbrev pub columnNumbers : Columns → List ℕ
+columnNumbers c = (c .count ∷ []) ++ c .offsets ++ c .widths ++ c .heights
+
+abbrev pub needNumbers : Needs → List ℕ
+needNumbers n = n .spill ∷ n .scratch ∷ []
+
+abbrev pub runNumbers : Run → List ℕ
+runNumbers r = r .offset ∷ r .length ∷ []
+
+-- ---- the calls
+abbrev pub checkTells : Settings → ℤ → ℤ → List ℤ → Answer (List ℤ)
+checkTells s w h = tells (settingsNo (settled s w h)) (numbersOf (settled s w h))
+
+abbrev pub packTells : SuperOpts → List ℕ → Answer (List ℕ)
+packTells r = tells (packNo r) (wordOf r ∷ [])
+
+abbrev pub readTells : ℕ → List ℤ → Answer (List ℤ)
+readTells v = tells (readNo v) (toldNumbers (describe (candidate v)))
+
+abbrev pub sizesTells : SuperOpts → List ℤ → Answer (List ℤ)
+sizesTells r = tells (recordNo r) (pos (superWidth r) ∷ pos (superHeight r) ∷ [])
+
+abbrev pub regionsTells : Layout → List ℕ → Answer (List ℕ)
+regionsTells q = tells (layoutNo q) (columnNumbers (columns (levelsOf q) (regionOr q)))
+
+abbrev pub endTells : Layout → List ℕ → Answer (List ℕ)
+endTells q = tells (layoutNo q) (writtenEnd q ∷ [])
+
+abbrev pub needsTells : Layout → List ℕ → Answer (List ℕ)
+needsTells q = tells (layoutNo q) (needNumbers (needsOf q))
+
+-- row y of plane k of level l, in a frame of len bytes
+abbrev pub rowTells : Layout → ℕ → ℕ → ℕ → ℕ → List ℕ → Answer (List ℕ)
+rowTells q len l k y = tells (rowNo q len l k y) (runNumbers (runOf q l k y))
+
+-- ---- a longhand record read: two slices are lent for the answer
+abbrev pub longhandReadNo : List ℕ → List ℤ → List ℕ → ℕ
+longhandReadNo l fields after = lowest (longhandNo l) (ltb (length fields) 10 || ltb (length after) 1)
+
+-- what a call of number n leaves of the first: the record's numbers
+abbrev pub fieldsTells : ℕ → List ℕ → List ℤ → Answer (List ℤ)
+fieldsTells n l fields = complete n (written (numbersOf (longhandAnswer l .value .opts)) fields) fields
+
+-- and of the second: "A refused read gives zeros and, but for 16, place 0"; here nothing where there is no place
+abbrev pub placeTells : ℕ → List ℕ → List ℕ → Answer (List ℕ)
+placeTells n l after = answer n (cond (eqb n 0 || eqb n 16) (written (longhandAnswer l .value .after ∷ []) after) after)
