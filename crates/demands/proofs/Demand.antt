@@ -1,10 +1,10 @@
 -- Demand 3 about the product's own calls. In the user's words:
 --     "Reading any word names one build exactly if some accepted record packs to it and all that do leave equal bytes, given the same plane, source pitch, layout and starting frame; it then tells the width, height, pel, levels, gpu, full, rc and lean they all have, and their down and up where document 01 says these matter. It answers "not a code" exactly if none packs to it. It answers that the halving or the upscale filter isn't told exactly if two such records, alike but for that one setting, leave different bytes for some plane, source pitch and layout, the same for both, in a frame of zeros; if both hold, halving is named."
 -- `Exact` of specs/Demands.antt says it sentence by sentence, and `demand-3` below that it holds of every answer that meets the contract of `read_word`.
--- First what the four calls promise, each from `Post`, what the checker itself reads of the call's `ensures`; then from the definitions to these promises; last `demand-3`. Assumes nothing.
+-- First the contracts of the five calls, each beside `Post`, what the checker itself reads of the call's `ensures`; then from the definitions to these contracts; then `demand-3`; last `alike-words`, that words which prepare alike leave equal bytes. Assumes nothing.
 use mathlib.Core.Path.{_≡_, sym, ap, _∙_, subst}
 use mathlib.Core.List.{List}
-use mathlib.Core.Bool.{false}
+use mathlib.Core.Bool.{true, false}
 use mathlib.Core.Logic.{_↔_}
 use Prim.Native.Nat.{ℕ}
 use native.Mathlib.Omega.{arith}
@@ -16,35 +16,43 @@ use denote.Ref.{now}
 use Rattle.settings.specs.declared.super_opts.SuperOpts.{SuperOpts}
 use Rattle.settings.specs.Numbers.{refuse, _then_}
 use Rattle.settings.specs.Answers.{Answer, answer, checked, checkAnswer, packed, packAnswer, told, readAnswer}
-use Rattle.settings.specs.Reading.{Packs}
-use Rattle.settings.proofs.Outcome.{Promises}
+use Rattle.settings.specs.Reading.{Packs, alike}
+use Rattle.settings.proofs.Outcome.{Contract, Promises}
 use Rattle.settings.proofs.Refusals.{then-first, then-rest}
 use Rattle.settings.proofs.Known.{given}
 use Rattle.settings.proofs.Told.{packs-exact}
 use Rattle.settings.proofs.super_opts.SuperOpts.from_opt.Reads as from-opt-reads
 use Rattle.settings.proofs.super_opts.SuperOpts.pack_data.Reads as pack-data-reads
 use Rattle.settings.proofs.word.read_word.Reads as read-word-reads
+use Rattle.settings.proofs.word.prepare_alike.Reads as prepare-alike-reads
 use Rattle.layouts.specs.declared.layout.Layout.{Layout}
 use Rattle.layouts.specs.Layout.{widthAt, writtenEnd, spillNeed, scratchNeed}
 use Rattle.layouts.specs.Numbers.{badPitch, layoutNo, sourceNeed, lentNo, buildNo}
 use Rattle.planes.specs.Answers.{planeNo}
 use Rattle.planes.proofs.build.build_plane.Reads as build-plane-reads
 use Rattle.demands.specs.Demands.{Given, layoutOf, SameBuild, Differ, withDown, withUp, HalvingDiffers, UpscaleDiffers, Exact, PacksTo, BuildPlane, Finished, leaves, Leaves}
+use Rattle.demands.proofs.Alike.{alike-build}
 use Rattle.demands.proofs.Demanded.{then-none, refuse-none, reads-met}
 
--- ---- what the calls promise
-pub from-opt-promise : (κs : Lfts 0) → Promises (from-opt-reads.Post κs) (λ x c e. checked c ≡ checkAnswer (x .0) (x .1 .0) (x .1 .1 .0))
-from-opt-promise κs x c e p = p
+-- ---- the calls' contracts
+itself : {A : Type 0} → A ↔ A
+itself = (λ a. a, λ a. a)
 
-pub pack-data-promise : (κs : Lfts 0) → Promises (pack-data-reads.Post κs) (λ x c e. packed c ≡ packAnswer (x .0))
-pack-data-promise κs x c e p = p
+pub from-opt-contract : (κs : Lfts 0) → Contract (from-opt-reads.Post κs) (λ x c e. checked c ≡ checkAnswer (x .0) (x .1 .0) (x .1 .1 .0))
+from-opt-contract κs x c e = itself
 
-pub read-word-promise : (κs : Lfts 0) → Promises (read-word-reads.Post κs) (λ x t e. told t ≡ readAnswer (x .0))
-read-word-promise κs x t e p = p
+pub pack-data-contract : (κs : Lfts 0) → Contract (pack-data-reads.Post κs) (λ x c e. packed c ≡ packAnswer (x .0))
+pack-data-contract κs x c e = itself
+
+pub read-word-contract : (κs : Lfts 0) → Contract (read-word-reads.Post κs) (λ x t e. told t ≡ readAnswer (x .0))
+read-word-contract κs x t e = itself
+
+pub prepare-alike-contract : (κs : Lfts 0) → Contract (prepare-alike-reads.Post κs) (λ x b e. b ≡ alike (x .0) (x .1 .0))
+prepare-alike-contract κs x b e = itself
 
 -- of layout, source, source pitch, frame, spill and scratch
-pub build-plane-promise : (κs : Lfts 4) → Promises (build-plane-reads.Post κs) (λ x t e. BuildPlane (x .1 .1 .1 .0) (now (x .1 .1 .1 .1 .0)) (x .1 .1 .1 .1 .1 .0) (now (x .0)) (now (x .1 .0)) (now (x .1 .1 .0)) t (now (e .0)) (now (e .1 .0)) (now (e .1 .1 .0)))
-build-plane-promise κs x t e p = p
+pub build-plane-contract : (κs : Lfts 4) → Contract (build-plane-reads.Post κs) (λ x t e. BuildPlane (x .1 .1 .1 .0) (now (x .1 .1 .1 .1 .0)) (x .1 .1 .1 .1 .1 .0) (now (x .0)) (now (x .1 .0)) (now (x .1 .1 .0)) t (now (e .0)) (now (e .1 .0)) (now (e .1 .1 .0)))
+build-plane-contract κs x t e = itself
 
 -- ---- from the definitions to the calls
 packs-to : (v : ℕ) (r : SuperOpts) → Packs v r ↔ PacksTo v r
@@ -139,4 +147,9 @@ by-calls v =
 
 -- ---- demand 3: x .0 is the word that is read, t the answer
 pub demand-3 : (κs : Lfts 0) → Promises (read-word-reads.Post κs) (λ x t e. Exact (PacksTo (x .0)) Finished (told t))
-demand-3 κs x t e p = subst (Exact (PacksTo (x .0)) Finished) (sym (read-word-promise κs x t e p)) (by-calls (x .0))
+demand-3 κs x t e p = subst (Exact (PacksTo (x .0)) Finished) (sym (read-word-contract κs x t e .0 p)) (by-calls (x .0))
+
+-- ---- comparing: x .0 and x .1 .0 are the words that are compared, b the answer
+pub alike-words : (κs : Lfts 0) → Promises (prepare-alike-reads.Post κs) (λ x b e. b ≡ true → (r s : SuperOpts) → PacksTo (x .0) r → PacksTo (x .1 .0) s → SameBuild Finished r s)
+alike-words κs x b e p is r s behind-r behind-s =
+    same-by leaves-by finished-by r s (alike-build (x .0) (x .1 .0) (sym (prepare-alike-contract κs x b e .0 p) ∙ is) r s (packs-to (x .0) r .1 behind-r) (packs-to (x .1 .0) s .1 behind-s))

@@ -122,7 +122,7 @@ module _ (v : ℕ) (r : SuperOpts) (p : Packs v r) where
   end = writtenEnd (luma r)
 
   at-level : (d u : ℤ) (l : ℕ) → offsetAt (luma (filtered r d u)) l ≡ offsetAt (luma r) l
-  at-level d u l = offset-same r d u (flat r 0) l
+  at-level d u l = offset-same r d u (r .rc) (r .lean) (flat r 0) l
 
   ends-at : (d u : ℤ) → writtenEnd (luma (filtered r d u)) ≤ end
   ends-at d u = omega (arith, at-level d u (levelCount r))

@@ -1,28 +1,24 @@
--- Settings that don't matter leave no trace: records alike but for them build alike, so that a word that reading takes for one build names one. Last, that the filters which reading counts are those that a build takes. Assumes nothing.
+-- Settings that don't matter leave no trace: records alike but for them build alike, so that a word that reading takes for one build names one. Assumes nothing.
 use mathlib.Core.Path.{_≡_, refl, sym, ap, _∙_}
 use mathlib.Core.Logic.{⊎-elim}
 use mathlib.Core.Bool.{Bool, true, false, cond, not, _&&_, _||_}
-use mathlib.Core.List.{List}
+use mathlib.Core.List.{List, _++_}
 use Prim.Native.Nat.{ℕ, zero, suc, _+_, _-_, _≤_}
 use native.Mathlib.Omega.{arith}
 use lib.Dec.{eqb, leb}
-use lib.IntN.{ℤ, pos, negsuc}
-use lib.ListN.{length, take}
-use borrow.Author.Tests.{lt-leb, leb-false, ne-eqb, not-false}
+use lib.IntN.{ℤ, pos}
+use lib.ListN.{length, take, replicate}
+use borrow.Author.Tests.{leb-false, not-false}
 use Rattle.settings.specs.declared.super_opts.SuperOpts.{SuperOpts}
 use Rattle.settings.specs.Numbers.{isNat, isI32, total}
 use Rattle.settings.specs.Check.{accepted, pelOf, levelCount}
-use Rattle.settings.specs.Reading.{candidate, readNo, downMatters, upMatters, Packs, halvingOf, upscaleOf}
+use Rattle.settings.specs.Reading.{candidate, readNo, downMatters, upMatters, Packs}
 use Rattle.settings.proofs.Tests.{and-off, or-yes, or-right}
 use Rattle.settings.proofs.Accepted.{fine, is-nat-pos}
-use Rattle.settings.proofs.Told.{filtered, filtered-packs, four-or-not, canon-accepted, canon-four, packs-canon, code-packs, read-case, at-0, halving as halvingOpen, upscale as upscaleOpen}
+use Rattle.settings.proofs.Told.{filtered-packs, four-or-not, canon-accepted, canon-four, packs-canon, code-packs, read-case, at-0, halving as halvingOpen, upscale as upscaleOpen}
 use Rattle.filters.specs.declared.halving.ReduceFilter.{ReduceFilter}
-use Rattle.filters.specs.declared.halving.ReduceFilter.the-variants.{Average, Bilinear, Quadratic, Cubic}
 use Rattle.filters.specs.declared.halving.Chosen.{Chosen}
 use Rattle.filters.specs.declared.halving.Chosen.the-variants.{Filter, NoFilter}
-use Rattle.filters.specs.declared.half_pel.HalfPel.the-variants.{CatmullRom, Wiener}
-use Rattle.filters.specs.declared.half_pel.Upscale.{Upscale}
-use Rattle.filters.specs.declared.half_pel.Upscale.the-variants.{Means, Kernel}
 use Rattle.filters.specs.Halve.{chosen}
 use Rattle.filters.specs.Refine.{upscale}
 use Rattle.layouts.specs.declared.layout.Layout.{Layout}
@@ -56,10 +52,25 @@ pick-go zero t c a b l e = refl
 pick-go (suc n) true c a b l e = absurd (omega (arith, leb-false 1 (suc n) e))
 pick-go (suc n) false c a b l e = refl
 
--- ---- where levels lie doesn't depend on the filters
-module _ (r : SuperOpts) (d u : ℤ) (g : Given) where
+-- ---- where levels lie doesn't depend on the filters, rc and lean
+abbrev pub changed : SuperOpts → ℤ → ℤ → Bool → Bool → SuperOpts
+changed r d u rc lean =
+    record {
+      pel = r .pel;
+      gpu = r .gpu;
+      «scale_down» = d;
+      «scale_up» = u;
+      full = r .full;
+      rc = rc;
+      lean = lean;
+      levels = r .levels;
+      width = r .width;
+      height = r .height;
+    }
+
+module _ (r : SuperOpts) (d u : ℤ) (rc lean : Bool) (g : Given) where
   abbrev other : Layout
-  other = layoutOf (filtered r d u) g
+  other = layoutOf (changed r d u rc lean) g
 
   stored-same : (l : ℕ) → storedAt other l ≡ storedAt (layoutOf r g) l
   stored-same zero = refl
@@ -73,16 +84,21 @@ module _ (r : SuperOpts) (d u : ℤ) (g : Given) where
 steps-same : (f g : ℕ → List ℕ → List ℕ) (n : ℕ) (c : List ℕ) → ((i : ℕ) (d : List ℕ) → f i d ≡ g i d) → steps f n c ≡ steps g n c
 steps-same f g n c same = turns {R = λ d e. d ≡ e} f g n (λ i lt. record { each = λ d e is. same i d ∙ ap (g i) is }) .each c c refl
 
-level-up : (r : SuperOpts) (u : ℤ) (g : Given) (len : ℕ) (f : ReduceFilter) (l : ℕ) (c : List ℕ) → halveLevel (layoutOf (withUp r u) g) (g .src) (g .sp) len f l c ≡ halveLevel (layoutOf r g) (g .src) (g .sp) len f l c
-unfolding halveLevel fusedAt
-level-up r u g len f l c = rw (offset-same r (r .«scale_down») u g l, offset-same r (r .«scale_down») u g (l - 1))
+-- nor does halving on up, rc and lean
+module _ (r : SuperOpts) (u : ℤ) (rc lean : Bool) (g : Given) (len : ℕ) where
+  abbrev still : SuperOpts
+  still = changed r (r .«scale_down») u rc lean
 
-halved-up : (r : SuperOpts) (u : ℤ) (g : Given) (len : ℕ) (ch : Chosen) (c : List ℕ) → halved (layoutOf (withUp r u) g) (g .src) (g .sp) len ch c ≡ halved (layoutOf r g) (g .src) (g .sp) len ch c
-unfolding halved
-halved-up r u g len (Filter f) c =
-    steps-same (λ i. halveLevel (layoutOf (withUp r u) g) (g .src) (g .sp) len f (i + 1)) (λ i. halveLevel (layoutOf r g) (g .src) (g .sp) len f (i + 1)) (levelCount r - 1) c
-    (λ i e. level-up r u g len f (i + 1) e)
-halved-up r u g len NoFilter c = refl
+  level-same : (f : ReduceFilter) (l : ℕ) (c : List ℕ) → halveLevel (layoutOf still g) (g .src) (g .sp) len f l c ≡ halveLevel (layoutOf r g) (g .src) (g .sp) len f l c
+  unfolding halveLevel fusedAt
+  level-same f l c = let at = offset-same r (r .«scale_down») u rc lean g in rw (at l, at (l - 1))
+
+  halved-same : (ch : Chosen) (c : List ℕ) → halved (layoutOf still g) (g .src) (g .sp) len ch c ≡ halved (layoutOf r g) (g .src) (g .sp) len ch c
+  unfolding halved
+  halved-same (Filter f) c =
+      steps-same (λ i. halveLevel (layoutOf still g) (g .src) (g .sp) len f (i + 1)) (λ i. halveLevel (layoutOf r g) (g .src) (g .sp) len f (i + 1)) (levelCount r - 1) c
+      (λ i e. level-same f (i + 1) e)
+  halved-same NoFilter c = refl
 
 -- up, where it doesn't matter
 pub built-up : (r : SuperOpts) (u : ℤ) (g : Given) (len : ℕ) (c : List ℕ) → upMatters r ≡ false → built (layoutOf (withUp r u) g) (g .src) (g .sp) len c ≡ built (layoutOf r g) (g .src) (g .sp) len c
@@ -91,8 +107,17 @@ built-up r u g len c e =
     let first = cond (r .full) (copied (layoutOf r g) (g .src) (g .sp) c) c in
     let later = halved (layoutOf r g) (g .src) (g .sp) len (chosen (r .«scale_down»)) first in
     let made : ℤ → List ℕ = λ x. refine (planesOf (layoutOf r g)) (pelOf r) (upscale x) later in
-    rw (halved-up r u g len (chosen (r .«scale_down»)) first)
+    rw (halved-same r u (r .rc) (r .lean) g len (chosen (r .«scale_down»)) first)
     (pick-go (levelCount r) (refines (layoutOf r g)) c (made u) (made (r .«scale_up»)) later e)
+
+-- rc and lean
+pub leaves-marks : (r : SuperOpts) (rc lean : Bool) (g : Given) → leaves (changed r (r .«scale_down») (r .«scale_up») rc lean) g ≡ leaves r g
+unfolding builtFrame built copied refined
+leaves-marks r rc lean g =
+    let len = length (g .frame) in
+    let c = g .frame ++ replicate (spillNeed (layoutOf r g)) 0 in
+    let first = cond (r .full) (copied (layoutOf r g) (g .src) (g .sp) c) c in
+    rw (halved-same r (r .«scale_up») rc lean g len (chosen (r .«scale_down»)) first)
 
 -- ---- what a word leaves open of a record that packs to it
 pub told-down : (v : ℕ) (r : SuperOpts) → Packs v r → halvingOpen (candidate v) ≡ halvingOpen r
@@ -127,7 +152,7 @@ module _ (v : ℕ) (r : SuperOpts) (p : Packs v r) (g : Given) where
 abbrev fourOr : SuperOpts → ℤ
 fourOr r = cond (isNat (r .«scale_down») 4) (pos 4) (pos 0)
 
-leaves-canon : (v : ℕ) → readNo v ≡ 0 → (r : SuperOpts) → Packs v r → (g : Given) → leaves (candidate v) g ≡ leaves r g
+pub leaves-canon : (v : ℕ) → readNo v ≡ 0 → (r : SuperOpts) → Packs v r → (g : Given) → leaves (candidate v) g ≡ leaves r g
 leaves-canon v e r p g =
     let known = at-0 (read-case v) e in
     let same = four-or-not (isNat (r .«scale_down») 4) in
@@ -141,15 +166,16 @@ leaves-canon v e r p g =
     four-fits true = refl
     four-fits false = refl
 
--- ---- what packs to one word builds, or none does: an accepted record's number doesn't depend on its filters
-number-same : (r : SuperOpts) (d u : ℤ) (g : Given) → accepted r ≡ true → accepted (filtered r d u) ≡ true → (n len a b : ℕ) → buildNo (layoutOf (filtered r d u) g) n (g .sp) len a b ≡ buildNo (layoutOf r g) n (g .sp) len a b
-unfolding buildNo layoutNo lentNo
-number-same r d u g good good' n len a b = rw (good, good', offset-same r d u g (levelCount r))
+-- ---- what packs to one word builds, or none does: an accepted record's number doesn't depend on its filters, rc and lean
+abbrev pub numberOf : SuperOpts → Given → ℕ
+numberOf r g = let q = layoutOf r g in buildNo q (length (g .src)) (g .sp) (length (g .frame)) (spillNeed q) (scratchNeed q)
 
-builds-canon : (v : ℕ) (r : SuperOpts) → Packs v r → (g : Given) → (buildNo (layoutOf (candidate v) g) (length (g .src)) (g .sp) (length (g .frame)) (spillNeed (layoutOf (candidate v) g)) (scratchNeed (layoutOf (candidate v) g))) ≡ (buildNo (layoutOf r g) (length (g .src)) (g .sp) (length (g .frame)) (spillNeed (layoutOf r g)) (scratchNeed (layoutOf r g)))
-builds-canon v r p g =
-    ap (λ (x : SuperOpts). let q = layoutOf x g in buildNo q (length (g .src)) (g .sp) (length (g .frame)) (spillNeed q) (scratchNeed q)) (packs-canon v r p)
-    ∙ number-same r (fourOr r) (pos 0) g (p .good) (canon-accepted r (p .good)) (length (g .src)) (length (g .frame)) (spillNeed (layoutOf r g)) (scratchNeed (layoutOf r g))
+pub number-same : (r : SuperOpts) (d u : ℤ) (rc lean : Bool) (g : Given) → accepted r ≡ true → accepted (changed r d u rc lean) ≡ true → numberOf (changed r d u rc lean) g ≡ numberOf r g
+unfolding buildNo layoutNo lentNo
+number-same r d u rc lean g good good' = rw (good, good', offset-same r d u rc lean g (levelCount r))
+
+pub builds-canon : (v : ℕ) (r : SuperOpts) → Packs v r → (g : Given) → numberOf (candidate v) g ≡ numberOf r g
+builds-canon v r p g = ap (λ (x : SuperOpts). numberOf x g) (packs-canon v r p) ∙ number-same r (fourOr r) (pos 0) (r .rc) (r .lean) g (p .good) (canon-accepted r (p .good))
 
 builds-both : (v : ℕ) (r s : SuperOpts) → Packs v r → Packs v s → (g : Given) → Builds r g → Builds s g
 builds-both v r s p q g e = sym (builds-canon v s q g) ∙ builds-canon v r p g ∙ e
@@ -161,37 +187,3 @@ same-build v e r s p q g m bs bf h = (builds-both v r s p q g (h .0), h .1 ∙ s
 -- "names one build exactly if ..", one way
 pub one-there : (v : ℕ) → readNo v ≡ 0 → ((r : SuperOpts) × Packs v r) × ((r s : SuperOpts) → Packs v r → Packs v s → SameBuild Leaves r s)
 one-there v e = ((candidate v, code-packs v (at-0 (read-case v) e .0)), same-build v e)
-
--- ---- the filters that reading counts (`halvingOf`, `upscaleOf`) are those that a build takes
-abbrev halvingBy : ℕ → Chosen
-halvingBy n = cond (eqb n 1) (Filter Average) (cond (eqb n 2) (Filter Bilinear) (cond (eqb n 3) (Filter Quadratic) (cond (eqb n 4) (Filter Cubic) NoFilter)))
-
-few : (d : ℕ) → leb d 1 ≡ (eqb d 0 || eqb d 1)
-few zero = refl
-few (suc zero) = refl
-few (suc (suc d)) = rw (lt-leb (suc (suc d)) 1 (omega arith), ne-eqb (suc (suc d)) 0 (λ e. omega arith), ne-eqb (suc (suc d)) 1 (λ e. omega arith))
-
-halving-go : (a b c d : Bool) → cond a (Filter Average) (cond b (Filter Bilinear) (cond c (Filter Quadratic) (cond d (Filter Cubic) NoFilter))) ≡ halvingBy (cond a 1 (cond b 2 (cond c 3 (cond d 4 0))))
-halving-go true b c d = refl
-halving-go false true c d = refl
-halving-go false false true d = refl
-halving-go false false false true = refl
-halving-go false false false false = refl
-
-pub halving-named : (z : ℤ) → chosen z ≡ halvingBy (halvingOf z)
-unfolding chosen
-halving-named (pos d) = rw (few d) (halving-go (eqb d 0 || eqb d 1) (eqb d 2) (eqb d 3) (eqb d 4))
-halving-named (negsuc d) = refl
-
-abbrev upscaleBy : ℕ → Upscale
-upscaleBy n = cond (eqb n 0) Means (cond (eqb n 1) (Kernel CatmullRom) (Kernel Wiener))
-
-upscale-go : (a b : Bool) → cond a Means (cond b (Kernel CatmullRom) (Kernel Wiener)) ≡ upscaleBy (cond a 0 (cond b 1 2))
-upscale-go true b = refl
-upscale-go false true = refl
-upscale-go false false = refl
-
-pub upscale-named : (z : ℤ) → upscale z ≡ upscaleBy (upscaleOf z)
-unfolding upscale
-upscale-named (pos d) = upscale-go (eqb d 0) (eqb d 1)
-upscale-named (negsuc d) = refl

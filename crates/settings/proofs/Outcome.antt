@@ -1,6 +1,12 @@
--- What a call promises, and that it has one outcome: the statements, and the law behind each proof of the second. `Post` is what the checker itself reads of a call's `ensures`: arguments, answer, references at exit. Assumes nothing.
+-- What a call's contract is, what it promises, and that it has one outcome: the statements, and the law behind each proof of the last. `Post` is what the checker itself reads of a call's `ensures`: arguments, answer, references at exit. Assumes nothing.
 use mathlib.Core.Path.{_≡_, sym, _∙_}
+use mathlib.Core.Logic.{_↔_}
 
+-- the contract is `Says`, no less and no more
+abbrev pub Contract : {X R E : Type 0} → (X → R → E → Type 0) → (X → R → E → Type 0) → Type 0
+Contract {X} {R} {E} Post Says = (x : X) (r : R) (e : E) → Post x r e ↔ Says x r e
+
+-- `Says` follows from it
 abbrev pub Promises : {X R E : Type 0} → (X → R → E → Type 0) → (X → R → E → Type 0) → Type 0
 Promises {X} {R} {E} Post Says = (x : X) (r : R) (e : E) → Post x r e → Says x r e
 

@@ -1,5 +1,5 @@
 -- Reading a word, and the accepted records that pack to it: demand 3 as far as records go.
--- First the record that a word spells; then `none-exact` (20), `tells-exact` (0), `halving-exact` (21), `upscale-exact` (22), `only-exact`; last `packs-exact`, what a record behind a word is. Byte for byte it is proved in crate demands, proofs/Demanded.antt. Assumes nothing.
+-- First the record that a word spells; then `none-exact` (20), `tells-exact` (0) and `only-exact`; last `packs-exact`, what a record behind a word is. What 21 and 22 say is said of bytes, in crate demands. Assumes nothing.
 use mathlib.Core.Path.{_≡_, refl, sym, ap, _∙_, subst}
 use mathlib.Core.Logic.{_↔_, _⊎_, inl, inr}
 use mathlib.Core.Bool.{Bool, true, false, cond, not, _&&_, _||_}
@@ -7,15 +7,15 @@ use Prim.Native.Nat.{ℕ, _≤_, _<_, _^_}
 use native.Mathlib.Omega.{arith}
 use lib.Dec.{eqb}
 use lib.IntN.{ℤ, pos}
-use borrow.Author.Tests.{not-true, eqb-true, eq-eqb, lt-ltb, le-ltb}
+use borrow.Author.Tests.{eqb-true, eq-eqb, lt-ltb, le-ltb}
 use Rattle.settings.specs.declared.super_opts.SuperOpts.{SuperOpts}
 use Rattle.settings.specs.Limits.{mostSide, mostLevels, mostPacked}
 use Rattle.settings.specs.Numbers.{isNat, toNat, isI32, refuse, _then_}
 use Rattle.settings.specs.Check.{settingsNo, levelCount, accepted, RecordI32}
 use Rattle.settings.specs.Word.{wordOf, packNo}
-use Rattle.settings.specs.Reading.{isSet, candidate, upMatters, downMatters, isCode, readNo, tellIf, describe, Packs, halvingOf, upscaleOf, HalvingOpen, UpscaleOpen}
+use Rattle.settings.specs.Reading.{isSet, candidate, upMatters, downMatters, isCode, readNo, tellIf, describe, Packs}
 use Rattle.settings.specs.Answers.{Answer, answer, packAnswer, Returns}
-use Rattle.settings.proofs.Tests.{and-left, and-right, or-yes, or-right, not-not, cond-not, clash, false-by, true-by}
+use Rattle.settings.proofs.Tests.{and-left, and-right, or-yes, not-not, cond-not, clash, false-by}
 use Rattle.settings.proofs.Accepted.{is-nat-pos, Fine, fine, fine-accepted, sound, within, levels-most, pos-pel, pos-gpu, pos-side, pos-levels, accepted-exact}
 use Rattle.settings.proofs.Known.{given}
 use Rattle.settings.proofs.Words.{bit-back, small, word-height, word-width, word-pel, word-levels, word-other, word-lean, word-gpu, word-rc, word-part}
@@ -177,67 +177,9 @@ tells-exact v e r p =
     let same = packs-canon v r p in
     ap describe same ∙ canon-told r (fine r (p .good)) (subst (λ (q : SuperOpts). halving q ≡ false) same (known .1)) (subst (λ (q : SuperOpts). upscale q ≡ false) same (known .2))
 
--- ---- 21
--- a record of an open halving filter has a down that isn't 4, since down 4 is one filter
-four-is : (z y : ℤ) → isNat z 4 ≡ true → isNat y 4 ≡ true → halvingOf z ≡ halvingOf y
-four-is z y p q = ap halvingOf (is-nat-pos z 4 p ∙ sym (is-nat-pos y 4 q))
-
+-- ---- a record behind a word has down 4 exactly if the word spells it
 pub canon-four : (v : ℕ) (r : SuperOpts) → Packs v r → isNat (candidate v .«scale_down») 4 ≡ isNat (r .«scale_down») 4
 canon-four v r p = ap (λ (q : SuperOpts). isNat (q .«scale_down») 4) (packs-canon v r p) ∙ four-or-not (isNat (r .«scale_down») 4)
-
-halving-witness : (v : ℕ) → readNo v ≡ 21 → HalvingOpen v
-halving-witness v e =
-    let k = at-21 (read-case v) e in
-    let c = candidate v in
-    let other = sym (not-true (isNat (c .«scale_down») 4) (and-right (downMatters c) (not (isNat (c .«scale_down») 4)) (k .1))) in
-    record {
-      one = filtered c (pos 0) (pos 0);
-      other = filtered c (pos 5) (pos 0);
-      one-packs = filtered-packs v c (pos 0) (pos 0) (code-packs v (k .0)) refl refl other (or-yes (isNat (c .gpu) 0));
-      other-packs = filtered-packs v c (pos 5) (pos 0) (code-packs v (k .0)) refl refl other (or-yes (isNat (c .gpu) 0));
-      matters = and-left (downMatters c) (not (isNat (c .«scale_down») 4)) (k .1);
-      differ = λ h. omega arith;
-    }
-
-not-four : (v : ℕ) (h : HalvingOpen v) → isNat (h .one .«scale_down») 4 ≡ false
-not-four v h = false-by (isNat (h .one .«scale_down») 4) (λ e. h .differ (four-is (h .one .«scale_down») (h .other .«scale_down») e (sym (canon-four v (h .other) (h .other-packs)) ∙ canon-four v (h .one) (h .one-packs) ∙ e)))
-
-halving-is : (v : ℕ) → HalvingOpen v → halving (candidate v) ≡ true
-halving-is v h = rw (canon-four v (h .one) (h .one-packs), not-four v h, packs-canon v (h .one) (h .one-packs), h .matters)
-
-pub halving-exact : (v : ℕ) → (readNo v ≡ 21) ↔ HalvingOpen v
-halving-exact v = (halving-witness v, λ h. read-by v ∙ rw (packs-code v (h .one) (h .one-packs), halving-is v h))
-
--- ---- 22
-zero-is : (z y : ℤ) → isNat z 0 ≡ true → isNat y 0 ≡ true → upscaleOf z ≡ upscaleOf y
-zero-is z y p q = ap upscaleOf (is-nat-pos z 0 p ∙ sym (is-nat-pos y 0 q))
-
-upscale-witness : (v : ℕ) → readNo v ≡ 22 → UpscaleOpen v
-upscale-witness v e =
-    let k = at-22 (read-case v) e in
-    let c = candidate v in
-    let zero : isNat (c .gpu) 0 ≡ true = and-right (upMatters c) (isNat (c .gpu) 0) (k .2) in
-    record {
-      one = filtered c (c .«scale_down») (pos 0);
-      other = filtered c (c .«scale_down») (pos 1);
-      one-packs = filtered-packs v c (c .«scale_down») (pos 0) (code-packs v (k .0)) (code-packs v (k .0) .down-fits) refl refl (or-yes (isNat (c .gpu) 0));
-      other-packs = filtered-packs v c (c .«scale_down») (pos 1) (code-packs v (k .0)) (code-packs v (k .0) .down-fits) refl refl (rw zero);
-      matters = and-left (upMatters c) (isNat (c .gpu) 0) (k .2);
-      differ = λ h. omega arith;
-    }
-
--- a record of an open upscale filter is of gpu 0: off it up is 0 in both
-on-gpu-0 : (v : ℕ) (h : UpscaleOpen v) → isNat (h .one .gpu) 0 ≡ true
-on-gpu-0 v h = true-by (isNat (h .one .gpu) 0) (λ e. h .differ (zero-is (h .one .«scale_up») (h .other .«scale_up») (or-right (isNat (h .one .gpu) 0) (isNat (h .one .«scale_up») 0) e (fine (h .one) (h .one-packs .good) .up)) (or-right (isNat (h .other .gpu) 0) (isNat (h .other .«scale_up») 0) (ap (λ (q : SuperOpts). isNat (q .gpu) 0) (sym (packs-canon v (h .other) (h .other-packs)) ∙ packs-canon v (h .one) (h .one-packs)) ∙ e) (fine (h .other) (h .other-packs .good) .up))))
-
-upscale-is : (v : ℕ) → UpscaleOpen v → upscale (candidate v) ≡ true
-upscale-is v h = rw (packs-canon v (h .one) (h .one-packs), on-gpu-0 v h, h .matters)
-
-pub upscale-exact : (v : ℕ) → (readNo v ≡ 22) ↔ (UpscaleOpen v × (HalvingOpen v → ⊥))
-upscale-exact v = (
-  λ e. (upscale-witness v e, λ h. clash (halving (candidate v)) (halving-is v h) (at-22 (read-case v) e .1)),
-  λ t. read-by v ∙ rw (packs-code v (t .0 .one) (t .0 .one-packs), false-by (halving (candidate v)) (λ e. t .1 (halving-witness v (read-by v ∙ rw (packs-code v (t .0 .one) (t .0 .one-packs), e)))), upscale-is v (t .0)),
-)
 
 -- no other number
 pub only-exact : (v : ℕ) → (readNo v ≡ 0) ⊎ (readNo v ≡ 20) ⊎ (readNo v ≡ 21) ⊎ (readNo v ≡ 22)

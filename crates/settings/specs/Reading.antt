@@ -1,8 +1,8 @@
 -- Document 01, "Words read and compared": which build a word names, or what it doesn't tell.
--- Demand 3 about these definitions is in proofs/Told.antt: 20 exactly if no accepted record packs to the word, and so on.
-use Prim.Native.Nat.{ℕ, _*_, _-_, _^_}
+-- That reading meets demand 3 is proved in crate demands, over the bytes that builds leave.
+use Prim.Native.Nat.{ℕ, _%_, _^_}
 use mathlib.Core.Path.{_≡_}
-use mathlib.Core.Bool.{Bool, true, false, cond, not, _&&_, _||_}
+use mathlib.Core.Bool.{Bool, true, false, cond, not, _&&_}
 use lib.Dec.{leb, ltb, eqb}
 use lib.IntN.{ℤ, pos}
 use Rattle.settings.specs.declared.super_opts.OptInt.{OptInt}
@@ -80,36 +80,10 @@ pub record Packs (v : ℕ) (r : SuperOpts) : Type 0 where
   pub good : accepted r ≡ true
   pub word : wordOf r ≡ v
 
--- the halving filter that down names: "0 or 1 (average), 2 (bilinear), 3 (quadratic), 4 (cubic); any other value leaves later levels unwritten"
-abbrev pub halvingOf : ℤ → ℕ
-halvingOf z = cond (isNat z 0 || isNat z 1) 1 (cond (isNat z 2) 2 (cond (isNat z 3) 3 (cond (isNat z 4) 4 0)))
-
--- the upscale filter that up names: "Up 0 is bilinear, 1 bicubic, others Wiener"
-abbrev pub upscaleOf : ℤ → ℕ
-upscaleOf z = cond (isNat z 0) 0 (cond (isNat z 1) 1 2)
-
--- two accepted records with this word differ in their halving filter, where it matters
-pub record HalvingOpen (v : ℕ) : Type 0 where
-  pub one : SuperOpts
-  pub other : SuperOpts
-  pub one-packs : Packs v one
-  pub other-packs : Packs v other
-  pub matters : downMatters one ≡ true
-  pub differ : halvingOf (one .«scale_down») ≡ halvingOf (other .«scale_down») → ⊥
-
--- likewise in their upscale filter
-pub record UpscaleOpen (v : ℕ) : Type 0 where
-  pub one : SuperOpts
-  pub other : SuperOpts
-  pub one-packs : Packs v one
-  pub other-packs : Packs v other
-  pub matters : upMatters one ≡ true
-  pub differ : upscaleOf (one .«scale_up») ≡ upscaleOf (other .«scale_up») → ⊥
-
 -- ---- "Two words prepare alike if both name one build and they agree in all but rc and lean"
--- a word without those two bits
-abbrev pub bare : ℕ → ℕ
-bare v = v - 2 ^ 47 * bits v 47 1 - 2 ^ 56 * bits v 56 1
+-- all bits but 47, lean's, and 56, rc's
+abbrev pub agree : ℕ → ℕ → Bool
+agree a b = eqb (a % 2 ^ 47) (b % 2 ^ 47) && eqb (bits a 48 8) (bits b 48 8) && eqb (bits a 57 7) (bits b 57 7)
 
 unfoldable pub alike : ℕ → ℕ → Bool
-alike a b = eqb (readNo a) 0 && eqb (readNo b) 0 && eqb (bare a) (bare b)
+alike a b = eqb (readNo a) 0 && eqb (readNo b) 0 && agree a b

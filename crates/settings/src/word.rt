@@ -5,7 +5,7 @@ ghost use mathlib.Core.Bool.{cond};
 ghost use Prim.Native.Nat.{_/_, _%_, _≤_};
 ghost use lib.Dec.{eqb};
 ghost use lib.IntN.{pos};
-ghost use Rattle.settings.specs.Reading.{candidate, isCode, readNo, upMatters, downMatters, tellIf, describe, bare, alike};
+ghost use Rattle.settings.specs.Reading.{candidate, isCode, readNo, upMatters, downMatters, tellIf, describe, agree, alike};
 ghost use Rattle.settings.specs.Answers.{tested, told, readAnswer};
 use crate::refusal::BadWord;
 use crate::refusal::Refusal;
@@ -151,7 +151,7 @@ fn tell_if(matters: bool, z: i32) -> OptInt
 pub fn prepare_alike(a: u64, b: u64) -> bool
     ensures { λ r. ⌜ r ≡ alike a b ⌝ }
 {
-    names_build(a) & names_build(b) & (bare(a) == bare(b))
+    names_build(a) & names_build(b) & agree(a, b)
 }
 
 fn names_build(word: u64) -> bool
@@ -163,11 +163,11 @@ fn names_build(word: u64) -> bool
     }
 }
 
-// Without the bits of rc and lean.
-fn bare(word: u64) -> u64
-    ensures { λ r. ⌜ r ≡ bare word ⌝ }
+// In all bits but lean's and rc's.
+fn agree(a: u64, b: u64) -> bool
+    ensures { λ r. ⌜ r ≡ agree a b ⌝ }
 {
-    word
-        - 0x8000_0000_0000 * (word / 0x8000_0000_0000 % 2)
-        - 0x100_0000_0000_0000 * (word / 0x100_0000_0000_0000 % 2)
+    (a % 0x8000_0000_0000 == b % 0x8000_0000_0000)
+        & (a / 0x1_0000_0000_0000 % 0x100 == b / 0x1_0000_0000_0000 % 0x100)
+        & (a / 0x200_0000_0000_0000 % 0x80 == b / 0x200_0000_0000_0000 % 0x80)
 }

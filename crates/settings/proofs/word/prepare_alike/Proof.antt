@@ -9,17 +9,12 @@ names-build-requires c κs = tt
 names-build-requires-2 : tie.Need-names-build-requires-2
 names-build-requires-2 c κs = tt
 
-bare-requires : tie.Need-bare-requires
-bare-requires c κs = tt
-
-bare-requires-2 : tie.Need-bare-requires-2
-bare-requires-2 c κs = tt
+agree-requires : tie.Need-agree-requires
+agree-requires c κs = tt
 
 returns : tie.Need-returns
 unfolding alike
-returns c = rw (c .before .before .before .names-build .ensures, c .before .before .names-build2 .ensures, c .before .bare .ensures, c .bare2 .ensures)
+returns c = rw (c .before .before .names-build .ensures, c .before .names-build2 .ensures, c .agree .ensures)
 
 pub prepare-alike-spec : {M : Type 1} → statement M
-prepare-alike-spec =
-    tie.close
-    (tie.spec names-build-requires names-build-requires-2 bare-requires bare-requires-2 returns)
+prepare-alike-spec = tie.close (tie.spec names-build-requires names-build-requires-2 agree-requires returns)
