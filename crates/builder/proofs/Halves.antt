@@ -8,16 +8,17 @@ use lib.ListN.{length, take, drop, replicate, length-append, length-drop, length
 use lib.Seq.{take-at, drop-at, length-take-le, drop-append-le, drop-drop}
 use Rattle.filters.specs.declared.halving.ReduceFilter.{ReduceFilter}
 use Rattle.filters.specs.declared.halving.ReduceFilter.the-variants.{Cubic}
-use Rattle.filters.specs.Halve.{Apart, headed, reducedApart, horizontalRow}
+use Rattle.filters.specs.Halve.{headed, horizontalRow}
+use Rattle.filters.specs.Inner.{Apart, reducedApart}
 use Rattle.filters.proofs.Pairs.{reduced-apart}
 use Rattle.filters.proofs.Lengths.{horizontal-length}
 use Rattle.layouts.specs.Storing.{put}
 use Rattle.layouts.specs.declared.layout.Region.{Region}
-use Rattle.layouts.proofs.Loops.{put-plain, put-lent, row-in}
+use Rattle.layouts.proofs.Loops.{put-plain, put-none, put-lent, row-in}
 use Rattle.builder.specs.Canvas.{fetch}
 use Rattle.builder.specs.Room.{Source, Within}
 use Rattle.builder.specs.Halving.{halveRun, fusedLine}
-use Rattle.builder.proofs.Runs.{fetch-length, fetch-stored, put-right}
+use Rattle.builder.proofs.Runs.{fetch-length, fetch-stored, put-grows, put-right}
 
 -- the part for the halved row was lent, and came back as l
 pub halve-lent : (f : ReduceFilter) (w at : ℕ) (c l split row : List ℕ) → 1 ≤ w → at + 2 * w ≤ length c → row ≡ fetch c at (2 * w) → Apart w w (headed row) split → l ≡ reducedApart f (length (take (at + w - at) (drop at c))) split → take at c ++ (l ++ drop (at + w - at) (drop at c)) ≡ halveRun f w at c
@@ -28,6 +29,13 @@ halve-lent f w at c l split row some fits is apart e =
     let wide : 2 * w ≤ length row = omega (arith, ap length is, fetch-length c at (2 * w)) in
     let h = e ∙ ap (λ (n : ℕ). reducedApart f n split) long ∙ reduced-apart f row some wide apart ∙ ap (horizontalRow f w) is in
     put-lent c l at (at + w - at) (ap length h ∙ horizontal-length f w (fetch c at (2 * w)) ∙ sym k) (omega arith) ∙ ap (put c at) h
+
+-- nothing is stored after it
+pub halve-alone : (f : ReduceFilter) (w at : ℕ) (c : List ℕ) → at + 2 * w ≤ length c → put (halveRun f w at c) (at + 2 * w) (replicate (at + 2 * w - (at + 2 * w)) 0) ≡ halveRun f w at c
+unfolding halveRun
+halve-alone f w at c fits =
+    let grown = put-grows c at (horizontalRow f w (fetch c at (2 * w))) in
+    put-none _ (at + 2 * w) (at + 2 * w - (at + 2 * w)) (omega arith) (omega arith)
 
 -- ---- runs stored in one another
 module _ (c ys : List ℕ) (at : ℕ) (fits : at + length ys ≤ length c) where

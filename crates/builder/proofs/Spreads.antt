@@ -6,7 +6,8 @@ use native.Mathlib.Omega.{arith}
 use lib.ListN.{length, take}
 use lib.Seq.{length-take-le}
 use Rattle.filters.specs.declared.halving.ReduceFilter.{ReduceFilter}
-use Rattle.filters.specs.Halve.{Apart, headed, reducedApart}
+use Rattle.filters.specs.Halve.{headed}
+use Rattle.filters.specs.Inner.{Apart, reducedApart}
 use Rattle.filters.proofs.Pairs.{reduced-apart}
 use Rattle.layouts.specs.declared.layout.Region.{Region}
 use Rattle.layouts.specs.Storing.{put}

@@ -1,8 +1,8 @@
 // Later levels from the level before, inside the frame: open-svpflow's `reduce` and `reduce_cubic`.
 // First a row of the target before and after it is halved; then the generic level; last the fused one.
 ghost use mathlib.Core.Path.{_≡_};
-ghost use Prim.Native.Nat.{_+_, _*_, _≤_, _<_};
-ghost use lib.ListN.{length};
+ghost use Prim.Native.Nat.{_+_, _*_, _-_, _≤_, _<_};
+ghost use lib.ListN.{length, replicate};
 ghost use Rattle.filters.specs.declared.halving.ReduceFilter.the-variants.{Cubic};
 ghost use Rattle.layouts.specs.Storing.{put};
 ghost use Rattle.builder.specs.Halving.{wholeOf, verticalLine, verticalRows, halveRun, horizontalRows, fromStored, fusedLine, fused};
@@ -41,6 +41,22 @@ fn halve_row(filter: ReduceFilter, frame: &mut [u8], scratch: &mut [u8], at: usi
     filter.reduce_row(&mut frame[at..at + w], scratch);
 }
 
+// The row halved, and zeros after its vertical values up to `end`: none after a generic row, the margin after a fused one.
+fn finish_row(
+    filter: ReduceFilter,
+    frame: &mut [u8],
+    scratch: &mut [u8],
+    at: usize,
+    w: usize,
+    end: usize,
+)
+    requires { ⌜ (1 ≤ w) × (at + 2 * w ≤ end) × (end ≤ length (now frame)) × (2 * w + 2 ≤ length (now scratch)) ⌝ }
+    ensures { λ r. ⌜ now (frame .exit) ≡ put (halveRun filter w at (now (frame .entry))) (at + 2 * w) (replicate (end - (at + 2 * w)) 0) ⌝ }
+{
+    halve_row(filter, frame, scratch, at, w);
+    zero_run(frame, at + 2 * w, end);
+}
+
 fn vertical_rows(
     filter: ReduceFilter,
     frame: &mut [u8],
@@ -71,7 +87,8 @@ fn horizontal_rows(
     let height = target.height;
     for y in 0..height {
         let at = target.offset + y * pitch;
-        halve_row(filter, frame, scratch, at, target.width);
+        let w = target.width;
+        finish_row(filter, frame, scratch, at, w, at + 2 * w);
     }
 }
 
@@ -103,8 +120,14 @@ fn fused_row(
 {
     vertical_row(ReduceFilter::Cubic, frame, scratch, base, pitch, target, y);
     let at = target.offset + y * pitch;
-    halve_row(ReduceFilter::Cubic, frame, scratch, at, target.width);
-    zero_run(frame, at + 2 * target.width, at + pitch);
+    finish_row(
+        ReduceFilter::Cubic,
+        frame,
+        scratch,
+        at,
+        target.width,
+        at + pitch,
+    );
 }
 
 pub fn reduce_cubic(frame: &mut [u8], scratch: &mut [u8], base: usize, pitch: usize, target: Region)

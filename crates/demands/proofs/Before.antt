@@ -15,7 +15,7 @@ use Rattle.filters.specs.declared.half_pel.HalfPel.{HalfPel}
 use Rattle.filters.specs.declared.half_pel.HalfPel.the-variants.{CatmullRom, Wiener}
 use Rattle.filters.specs.Row.{Six, tab, meanOf, meansOf, sixAt, sixes, around}
 use Rattle.filters.specs.Halve.{isEdge, weigh, restOf, headed, horizontalAt}
-use Rattle.filters.specs.Refine.{placed, halfHorizontal, halfVertical}
+use Rattle.filters.specs.Refine.{halfPel, halfSample, halfHorizontal, halfVertical}
 use Rattle.filters.proofs.Tables.{tab-ext}
 use Rattle.layouts.proofs.Loops.{row-in}
 use Rattle.builder.specs.declared.refining.Interp.{Interp}
@@ -117,18 +117,19 @@ pairs-before z v f w x = go (isEdge f x w) refl
 
 -- ---- half places
 -- place i: what stands for the places i - 2 and i - 1 counts only where they are there
-pub placed-before : (k : HalfPel) (i n : ℕ) {m2 m1 x2 x1 : ℕ} (c0 p1 p2 p3 : ℕ) → (2 ≤ i → m2 ≡ x2) → (1 ≤ i → m1 ≡ x1) → placed k i n m2 m1 c0 p1 p2 p3 ≡ placed k i n x2 x1 c0 p1 p2 p3
-placed-before CatmullRom zero n c0 p1 p2 p3 two one = refl
-placed-before CatmullRom (suc i) n c0 p1 p2 p3 two one = rw (one (omega arith))
-placed-before Wiener zero n c0 p1 p2 p3 two one = refl
-placed-before Wiener (suc zero) n c0 p1 p2 p3 two one = refl
-placed-before Wiener (suc (suc i)) n c0 p1 p2 p3 two one = rw (two (omega arith), one (omega arith))
+pub sample-before : (k : HalfPel) (i n : ℕ) {m2 m1 x2 x1 : ℕ} (c0 p1 p2 p3 : ℕ) → (2 ≤ i → m2 ≡ x2) → (1 ≤ i → m1 ≡ x1) → halfSample k i n m2 m1 c0 p1 p2 p3 ≡ halfSample k i n x2 x1 c0 p1 p2 p3
+unfolding halfPel
+sample-before CatmullRom zero n c0 p1 p2 p3 two one = refl
+sample-before CatmullRom (suc i) n c0 p1 p2 p3 two one = rw (one (omega arith))
+sample-before Wiener zero n c0 p1 p2 p3 two one = refl
+sample-before Wiener (suc zero) n c0 p1 p2 p3 two one = refl
+sample-before Wiener (suc (suc i)) n c0 p1 p2 p3 two one = rw (two (omega arith), one (omega arith))
 
 -- along a row: whatever lies before it
-pub across-before : (z r : List ℕ) (k : HalfPel) (n : ℕ) → tab (λ i. around (placed k i n) (z ++ r) (length z + i)) n ≡ halfHorizontal k n r
+pub across-before : (z r : List ℕ) (k : HalfPel) (n : ℕ) → tab (λ i. around (halfSample k i n) (z ++ r) (length z + i)) n ≡ halfHorizontal k n r
 unfolding halfHorizontal
 across-before z r k n =
-    tab-ext (λ i. around (placed k i n) (z ++ r) (length z + i)) (λ i. around (placed k i n) r i) n
+    tab-ext (λ i. around (halfSample k i n) (z ++ r) (length z + i)) (λ i. around (halfSample k i n) r i) n
     (λ i lt.
     let a = length z + i in
     let e0 = after-at z r a i refl in
@@ -136,7 +137,7 @@ across-before z r k n =
     let d2 = after-at z r (a + 2) (i + 2) (omega arith) in
     let d3 = after-at z r (a + 3) (i + 3) (omega arith) in
     rw (e0, d1, d2, d3)
-    (placed-before k i n (getD r i 0) (getD r (i + 1) 0) (getD r (i + 2) 0) (getD r (i + 3) 0)
+    (sample-before k i n (getD r i 0) (getD r (i + 1) 0) (getD r (i + 2) 0) (getD r (i + 3) 0)
     (λ two. after-at z r (a - 2) (i - 2) (omega arith))
     (λ one. after-at z r (a - 1) (i - 1) (omega arith))))
 
@@ -144,9 +145,9 @@ across-before z r k n =
 pub rows-before : (k : HalfPel) (y h n : ℕ) {m2 m1 x2 x1 : List ℕ} (c0 p1 p2 p3 : List ℕ) → (2 ≤ y → m2 ≡ x2) → (1 ≤ y → m1 ≡ x1) → halfVertical k y h n m2 m1 c0 p1 p2 p3 ≡ halfVertical k y h n x2 x1 c0 p1 p2 p3
 unfolding halfVertical sixes
 rows-before k y h n {m2} {m1} {x2} {x1} c0 p1 p2 p3 two one =
-    tab-ext (sixAt (placed k y h) m2 m1 c0 p1 p2 p3) (sixAt (placed k y h) x2 x1 c0 p1 p2 p3) n
+    tab-ext (sixAt (halfSample k y h) m2 m1 c0 p1 p2 p3) (sixAt (halfSample k y h) x2 x1 c0 p1 p2 p3) n
     (λ j lt.
-    placed-before k y h (getD c0 j 0) (getD p1 j 0) (getD p2 j 0) (getD p3 j 0)
+    sample-before k y h (getD c0 j 0) (getD p1 j 0) (getD p2 j 0) (getD p3 j 0)
     (λ le. ap (λ (l : List ℕ). getD l j 0) (two le))
     (λ le. ap (λ (l : List ℕ). getD l j 0) (one le)))
 

@@ -17,7 +17,7 @@ use Rattle.filters.specs.declared.half_pel.Upscale.{Upscale}
 use Rattle.filters.specs.declared.half_pel.Upscale.the-variants.{Means, Kernel}
 use Rattle.filters.specs.Row.{meanOf, meansOf, around}
 use Rattle.filters.specs.Halve.{horizontalAt, horizontalRow}
-use Rattle.filters.specs.Refine.{halfHorizontal, placed}
+use Rattle.filters.specs.Refine.{halfHorizontal, halfSample}
 use Rattle.filters.proofs.Tables.{tab-at}
 use Rattle.filters.proofs.Lengths.{means-length, horizontal-length, half-horizontal-length}
 use Rattle.layouts.specs.declared.layout.Layout.{Layout}
@@ -308,7 +308,7 @@ module _ (i : Interp) (fits : i .width + 15 ≤ i .pitch) (hh : 0 < i .height) (
       let w = i .width in
       let p = i .pitch in
       let row = fetch c (0 + 0 * p) w in
-      let rule : ℕ → ℕ = λ j. around (placed u j w) row j in
+      let rule : ℕ → ℕ = λ j. around (halfSample u j w) row j in
       steps-first (Has x s) _ (i .height) c hh
       (has-in c (planeAt i a + 0 * p) (halfHorizontal u w row) x (w - 1) (omega arith) long (omega (arith, half-horizontal-length u w row))
       (tab-at rule w (w - 1) (omega arith)

@@ -28,7 +28,7 @@ pub record ByHand : Type 0 where
   pub row : horizontalRow Cubic 4 (0 ∷ 200 ∷ 30 ∷ 40 ∷ 50 ∷ 60 ∷ 70 ∷ 80 ∷ []) ≡ (100 ∷ 66 ∷ 55 ∷ 75 ∷ [])
 
 pub by-hand : ByHand
-unfolding horizontalRow horizontalAt headed tab
+unfolding horizontalRow horizontalAt headed tab halfPel
 by-hand =
     record {
       mean = refl;

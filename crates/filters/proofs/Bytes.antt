@@ -5,6 +5,7 @@ use mathlib.Core.Logic.{⊎-elim}
 use Prim.Native.Nat.{ℕ, zero, suc, _+_, _*_, _-_, _≤_, _<_}
 use native.Mathlib.Omega.{arith}
 use lib.Dec.{leb}
+use lib.IntN.{ℤ, pos, negsuc}
 use lib.ListN.{getD, List·getD-eq-default}
 use Rattle.filters.specs.declared.halving.ReduceFilter.{ReduceFilter}
 use Rattle.filters.specs.declared.halving.ReduceFilter.the-variants.{Average, Bilinear, Quadratic, Cubic}
@@ -12,7 +13,7 @@ use Rattle.filters.specs.declared.half_pel.HalfPel.{HalfPel}
 use Rattle.filters.specs.declared.half_pel.HalfPel.the-variants.{CatmullRom, Wiener}
 use Rattle.filters.specs.Row.{Six, tab, meanOf, meansOf, sixAt, sixes, around}
 use Rattle.filters.specs.Halve.{isEdge, weigh, restOf, headed, horizontalAt, horizontalRow}
-use Rattle.filters.specs.Refine.{isMean, halfPel, placed, halfHorizontal, halfVertical}
+use Rattle.filters.specs.Refine.{nearEdge, kernel, held, halfPel, halfSample, halfHorizontal, halfVertical}
 use Rattle.filters.proofs.Tests.{below-or}
 use Rattle.filters.proofs.Tables.{tab-at, tab-length}
 
@@ -47,12 +48,16 @@ weigh-byte Cubic m2 m1 c0 p1 p2 p3 h2 h1 g0 g1 g2 g3 = omega arith
 pub rest-byte : ByteRule restOf
 rest-byte a m1 c0 p1 b c ha h1 g0 g1 hb hc = omega arith
 
-pub half-byte : (k : HalfPel) → ByteRule (halfPel k)
-half-byte CatmullRom m2 m1 c0 p1 p2 p3 h2 h1 g0 g1 g2 g3 = omega arith
-half-byte Wiener m2 m1 c0 p1 p2 p3 h2 h1 g0 g1 g2 g3 = omega arith
+held-byte : (z : ℤ) → held z < 256
+held-byte (pos n) = omega arith
+held-byte (negsuc n) = omega arith
 
-placed-byte : (k : HalfPel) (i n : ℕ) → ByteRule (placed k i n)
-placed-byte k i n m2 m1 c0 p1 p2 p3 h2 h1 g0 g1 g2 g3 = cond-byte (leb n (i + 1)) _ _ g0 (cond-byte (isMean k i n) _ _ (mean-byte c0 p1 g0 g1) (half-byte k m2 m1 c0 p1 p2 p3 h2 h1 g0 g1 g2 g3))
+pub half-byte : (k : HalfPel) → ByteRule (halfPel k)
+unfolding halfPel
+half-byte k m2 m1 c0 p1 p2 p3 h2 h1 g0 g1 g2 g3 = held-byte (kernel k (pos m2) (pos m1) (pos c0) (pos p1) (pos p2) (pos p3))
+
+sample-byte : (k : HalfPel) (i n : ℕ) → ByteRule (halfSample k i n)
+sample-byte k i n m2 m1 c0 p1 p2 p3 h2 h1 g0 g1 g2 g3 = cond-byte (leb n (i + 1)) _ _ g0 (cond-byte (nearEdge k i n) _ _ (mean-byte c0 p1 g0 g1) (half-byte k m2 m1 c0 p1 p2 p3 h2 h1 g0 g1 g2 g3))
 
 around-byte : (k : Six) (r : List ℕ) (i : ℕ) → ByteRule k → Bytes r → around k r i < 256
 around-byte k r i rule b = rule _ _ _ _ _ _ (b (i - 2)) (b (i - 1)) (b i) (b (i + 1)) (b (i + 2)) (b (i + 3))
@@ -78,8 +83,8 @@ horizontal-bytes f w v b = tab-bytes _ w (λ x. cond-byte (isEdge f x w) _ _ (me
 
 pub half-horizontal-bytes : (k : HalfPel) (n : ℕ) (r : List ℕ) → Bytes r → Bytes (halfHorizontal k n r)
 unfolding halfHorizontal
-half-horizontal-bytes k n r b = tab-bytes _ n (λ i. around-byte (placed k i n) r i (placed-byte k i n) b)
+half-horizontal-bytes k n r b = tab-bytes _ n (λ i. around-byte (halfSample k i n) r i (sample-byte k i n) b)
 
 pub half-vertical-bytes : (k : HalfPel) (y h n : ℕ) (m2 m1 c0 p1 p2 p3 : List ℕ) → Bytes m2 → Bytes m1 → Bytes c0 → Bytes p1 → Bytes p2 → Bytes p3 → Bytes (halfVertical k y h n m2 m1 c0 p1 p2 p3)
 unfolding halfVertical
-half-vertical-bytes k y h n m2 m1 c0 p1 p2 p3 = sixes-bytes (placed k y h) n m2 m1 c0 p1 p2 p3 (placed-byte k y h)
+half-vertical-bytes k y h n m2 m1 c0 p1 p2 p3 = sixes-bytes (halfSample k y h) n m2 m1 c0 p1 p2 p3 (sample-byte k y h)

@@ -11,7 +11,7 @@ use mir.Val.{SFits, ofZ, toZ}
 use mir.Facts.{toZ-ofZ, toZ-pos}
 use lib.IntN.{ℤ, pos, negsuc, subℕ, _+ℤ_, _-ℤ_}
 use borrow.Author.Tests.{lt-ltb, le-ltb}
-use Rattle.filters.specs.H264.{clip1, shr}
+use Rattle.filters.specs.Refine.{shr, held}
 use Rattle.filters.proofs.Tests.{below-or}
 
 sub-less : (a b : ℕ) → a < b → subℕ a b ≡ negsuc (b - suc a)
@@ -46,24 +46,14 @@ sub-sub a b (suc n) =
     (λ (le : b ≤ a). ap (λ (z : ℤ). z +ℤ negsuc n) (sub-more a b le) ∙ sub-same (a - b) (suc n) a (b + suc n) (omega arith))
     (below-or a b)
 
-top-go : (y : ℕ) → cond (ltb 255 y) (pos 255) (pos y) ≡ pos (min 255 y)
-top-go y =
-    ⊎-elim
-    (λ (lt : 255 < y). rw (lt-ltb 255 y lt) (ap pos (omega arith)))
-    (λ (le : y ≤ 255). rw (le-ltb 255 y le) (ap pos (omega arith)))
-    (below-or 255 y)
-
 -- held to 0..255, a difference below 0 counts as 0
-pub clip-sub : (a b k : ℕ) → clip1 (shr (subℕ a b) k) ≡ pos (min 255 ((a - b) / 2 ^ k))
-clip-sub a b k =
+pub held-sub : (a b k : ℕ) → held (shr (subℕ a b) k) ≡ min 255 ((a - b) / 2 ^ k)
+held-sub a b k =
     ⊎-elim
     (λ (lt : a < b).
     let none : a - b ≡ 0 = omega arith in
-    ap (λ (z : ℤ). clip1 (shr z k)) (sub-less a b lt) ∙ ap pos (sym (ap (λ (x : ℕ). min 255 (x / 2 ^ k)) none ∙ ap (min 255) (zero-div (2 ^ k)))))
-    (λ (le : b ≤ a).
-    ap (λ (z : ℤ). clip1 (shr z k)) (sub-more a b le)
-    ∙ ap (λ (t : Bool). cond t (pos 0) (cond (ltb 255 ((a - b) / 2 ^ k)) (pos 255) (pos ((a - b) / 2 ^ k)))) (le-ltb ((a - b) / 2 ^ k) 0 (omega arith))
-    ∙ top-go ((a - b) / 2 ^ k))
+    ap (λ (z : ℤ). held (shr z k)) (sub-less a b lt) ∙ sym (ap (λ (x : ℕ). min 255 (x / 2 ^ k)) none ∙ ap (min 255) (zero-div (2 ^ k))))
+    (λ (le : b ≤ a). ap (λ (z : ℤ). held (shr z k)) (sub-more a b le))
     (below-or a b)
 
 -- the bits of z are the number n: z is n

@@ -9,7 +9,7 @@ use Rattle.filters.specs.declared.halving.ReduceFilter.{ReduceFilter}
 use Rattle.filters.specs.declared.half_pel.HalfPel.{HalfPel}
 use Rattle.filters.specs.Row.{Six, meansOf, sixes}
 use Rattle.filters.specs.Halve.{horizontalRow}
-use Rattle.filters.specs.Refine.{placed, halfHorizontal, halfVertical}
+use Rattle.filters.specs.Refine.{halfSample, halfHorizontal, halfVertical}
 use Rattle.filters.proofs.Tables.{tab-length}
 
 pub means-length : (n : ℕ) (a b : List ℕ) → length (meansOf n a b) ≡ n
@@ -33,4 +33,4 @@ half-horizontal-length k n r = tab-length _ n
 
 pub half-vertical-length : (k : HalfPel) (y h n : ℕ) (m2 m1 c0 p1 p2 p3 : List ℕ) → length (halfVertical k y h n m2 m1 c0 p1 p2 p3) ≡ n
 unfolding halfVertical
-half-vertical-length k y h n = sixes-length (placed k y h) n
+half-vertical-length k y h n = sixes-length (halfSample k y h) n

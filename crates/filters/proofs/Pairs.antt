@@ -11,8 +11,9 @@ use lib.Seq.{getD-set-same, getD-set-other, getD-drop}
 use borrow.Author.Tests.{ne-eqb, le-leb, lt-leb, leb-false}
 use Rattle.filters.specs.declared.halving.ReduceFilter.{ReduceFilter}
 use Rattle.filters.specs.declared.halving.ReduceFilter.the-variants.{Average, Bilinear, Quadratic, Cubic}
-use Rattle.filters.specs.Row.{Reach, meanOf, sixAt, sixes, around}
-use Rattle.filters.specs.Halve.{lastIsMean, isEdge, weigh, headed, horizontalAt, horizontalRow, Apart, weighedApart, withLast, reducedApart}
+use Rattle.filters.specs.Row.{meanOf, sixAt, sixes, around}
+use Rattle.filters.specs.Halve.{lastIsMean, isEdge, weigh, headed, horizontalAt, horizontalRow}
+use Rattle.filters.specs.Inner.{Reach, Apart, weighedApart, withLast, reducedApart}
 use Rattle.filters.proofs.Tests.{below-or, and-no, or-yes}
 use Rattle.filters.proofs.Tables.{is-tab, tab-at}
 use Rattle.filters.proofs.Lengths.{sixes-length}

@@ -12,35 +12,36 @@ use lib.Seq.{getD-drop, length-take-le}
 use borrow.Author.Tests.{lt-ltb, le-ltb, le-leb, lt-leb}
 use Rattle.filters.specs.declared.half_pel.HalfPel.{HalfPel}
 use Rattle.filters.specs.declared.half_pel.HalfPel.the-variants.{CatmullRom, Wiener}
-use Rattle.filters.specs.Row.{Reach, tab, meanOf, meansOf, sixAt, sixes, around}
-use Rattle.filters.specs.Refine.{isMean, leadOf, tailOf, halfPel, placed, nextAt, nextMeans, halfHorizontal, halfVertical}
+use Rattle.filters.specs.Row.{tab, meanOf, meansOf, sixAt, sixes, around}
+use Rattle.filters.specs.Refine.{nearEdge, leadOf, tailOf, halfPel, halfSample, halfHorizontal, halfVertical}
+use Rattle.filters.specs.Inner.{Reach, nextAt, nextMeans}
 use Rattle.filters.proofs.Tests.{below-or, or-yes}
 use Rattle.filters.proofs.Filling.{Filled, filled-more, filled-whole}
 use Rattle.filters.proofs.Tables.{tab-at, tab-length, tab-ext, take-tab, part-length, back-tab}
 
 module _ (k : HalfPel) (i n m2 m1 c0 p1 p2 p3 : ℕ) where
-  placed-copy : n ≤ i + 1 → c0 ≡ placed k i n m2 m1 c0 p1 p2 p3
-  placed-copy le = rw (le-leb n (i + 1) le)
+  sample-copy : n ≤ i + 1 → c0 ≡ halfSample k i n m2 m1 c0 p1 p2 p3
+  sample-copy le = rw (le-leb n (i + 1) le)
 
-  placed-mean : i + 1 < n → isMean k i n ≡ true → meanOf c0 p1 ≡ placed k i n m2 m1 c0 p1 p2 p3
-  placed-mean lt e = rw (lt-leb n (i + 1) lt, e)
+  sample-mean : i + 1 < n → nearEdge k i n ≡ true → meanOf c0 p1 ≡ halfSample k i n m2 m1 c0 p1 p2 p3
+  sample-mean lt e = rw (lt-leb n (i + 1) lt, e)
 
-  placed-kernel : i + 1 < n → isMean k i n ≡ false → halfPel k m2 m1 c0 p1 p2 p3 ≡ placed k i n m2 m1 c0 p1 p2 p3
-  placed-kernel lt e = rw (lt-leb n (i + 1) lt, e)
+  sample-kernel : i + 1 < n → nearEdge k i n ≡ false → halfPel k m2 m1 c0 p1 p2 p3 ≡ halfSample k i n m2 m1 c0 p1 p2 p3
+  sample-kernel lt e = rw (lt-leb n (i + 1) lt, e)
 
 -- ---- down the rows
 module _ (k : HalfPel) (y h n : ℕ) (m2 m1 c0 p1 p2 p3 : List ℕ) where
   pub vertical-copy : h ≤ y + 1 → n ≤ length c0 → take n c0 ≡ halfVertical k y h n m2 m1 c0 p1 p2 p3
   unfolding halfVertical sixes
-  vertical-copy le long = take-tab n c0 long ∙ tab-ext (λ i. getD c0 i 0) (sixAt (placed k y h) m2 m1 c0 p1 p2 p3) n (λ i lt. placed-copy k y h _ _ (getD c0 i 0) _ _ _ le)
+  vertical-copy le long = take-tab n c0 long ∙ tab-ext (λ i. getD c0 i 0) (sixAt (halfSample k y h) m2 m1 c0 p1 p2 p3) n (λ i lt. sample-copy k y h _ _ (getD c0 i 0) _ _ _ le)
 
-  pub vertical-mean : y + 1 < h → isMean k y h ≡ true → meansOf n c0 p1 ≡ halfVertical k y h n m2 m1 c0 p1 p2 p3
+  pub vertical-mean : y + 1 < h → nearEdge k y h ≡ true → meansOf n c0 p1 ≡ halfVertical k y h n m2 m1 c0 p1 p2 p3
   unfolding halfVertical sixes meansOf
-  vertical-mean lt e = tab-ext (λ i. meanOf (getD c0 i 0) (getD p1 i 0)) (sixAt (placed k y h) m2 m1 c0 p1 p2 p3) n (λ i h. placed-mean k y _ _ _ _ _ _ _ lt e)
+  vertical-mean lt e = tab-ext (λ i. meanOf (getD c0 i 0) (getD p1 i 0)) (sixAt (halfSample k y h) m2 m1 c0 p1 p2 p3) n (λ i h. sample-mean k y _ _ _ _ _ _ _ lt e)
 
-  pub vertical-kernel : y + 1 < h → isMean k y h ≡ false → sixes (halfPel k) n m2 m1 c0 p1 p2 p3 ≡ halfVertical k y h n m2 m1 c0 p1 p2 p3
+  pub vertical-kernel : y + 1 < h → nearEdge k y h ≡ false → sixes (halfPel k) n m2 m1 c0 p1 p2 p3 ≡ halfVertical k y h n m2 m1 c0 p1 p2 p3
   unfolding halfVertical sixes
-  vertical-kernel lt e = tab-ext (sixAt (halfPel k) m2 m1 c0 p1 p2 p3) (sixAt (placed k y h) m2 m1 c0 p1 p2 p3) n (λ i h. placed-kernel k y _ _ _ _ _ _ _ lt e)
+  vertical-kernel lt e = tab-ext (sixAt (halfPel k) m2 m1 c0 p1 p2 p3) (sixAt (halfSample k y h) m2 m1 c0 p1 p2 p3) n (λ i h. sample-kernel k y _ _ _ _ _ _ _ lt e)
 
 -- ---- along a row
 tail-some : (k : HalfPel) → 1 < tailOf k
@@ -76,31 +77,32 @@ next-made n o r t m long some next means =
     filled-whole (filled-more filled (omega arith) (next-last n r (n - 1) (omega arith))) (omega arith)
 
 module _ (k : HalfPel) (n : ℕ) (r : List ℕ) where
-  by-edges : (i : ℕ) → isMean k i n ≡ true → nextAt n r i ≡ around (placed k i n) r i
+  by-edges : (i : ℕ) → nearEdge k i n ≡ true → nextAt n r i ≡ around (halfSample k i n) r i
   by-edges i e =
       ⊎-elim
-      (λ (lt : i + 1 < n). sym (next-inner n r i lt) ∙ placed-mean k i n _ _ _ _ _ _ lt e)
-      (λ (le : n ≤ i + 1). sym (next-last n r i le) ∙ placed-copy k i n _ _ _ _ _ _ le)
+      (λ (lt : i + 1 < n). sym (next-inner n r i lt) ∙ sample-mean k i n _ _ _ _ _ _ lt e)
+      (λ (le : n ≤ i + 1). sym (next-last n r i le) ∙ sample-copy k i n _ _ _ _ _ _ le)
       (below-or (i + 1) n)
 
-  at-front : (i : ℕ) → i < leadOf k → isMean k i n ≡ true
+  at-front : (i : ℕ) → i < leadOf k → nearEdge k i n ≡ true
   at-front i lt = rw (lt-ltb i (leadOf k) lt)
 
-  at-tail : (i : ℕ) → n ≤ i + tailOf k → isMean k i n ≡ true
+  at-tail : (i : ℕ) → n ≤ i + tailOf k → nearEdge k i n ≡ true
   at-tail i le = rw (le-leb n (i + tailOf k) le) (or-yes (ltb i (leadOf k)))
 
-  between : (i : ℕ) → leadOf k ≤ i → i + tailOf k < n → isMean k i n ≡ false
+  between : (i : ℕ) → leadOf k ≤ i → i + tailOf k < n → nearEdge k i n ≡ false
   between i le lt = rw (le-ltb i (leadOf k) le, lt-leb n (i + tailOf k) lt)
 
   -- a row too short for the kernel
   pub short-row : n ≤ leadOf k + tailOf k → nextMeans n r ≡ halfHorizontal k n r
   unfolding nextMeans halfHorizontal
   short-row few =
-      tab-ext (nextAt n r) (λ i. around (placed k i n) r i) n
+      tab-ext (nextAt n r) (λ i. around (halfSample k i n) r i) n
       (λ i lt. by-edges i (⊎-elim (λ (l : i < leadOf k). at-front i l) (λ (g : leadOf k ≤ i). at-tail i (omega arith)) (below-or i (leadOf k))))
 
 -- the taps of the place leadOf k + j, as parts of the row give them
 taps : (k : HalfPel) (r : List ℕ) (j : ℕ) → halfPel k (getD r j 0) (getD r (leadOf k - 1 + j) 0) (getD r (leadOf k + j) 0) (getD r (leadOf k + 1 + j) 0) (getD r (leadOf k + 2 + j) 0) (getD r (leadOf k + 3 + j) 0) ≡ around (halfPel k) r (leadOf k + j)
+unfolding halfPel
 taps CatmullRom r j =
     let e1 : 1 - 1 + j ≡ 1 + j - 1 = omega arith in
     let e3 : 1 + 1 + j ≡ 1 + j + 1 = omega arith in
@@ -148,14 +150,14 @@ module _ (k : HalfPel) (n : ℕ) (r : List ℕ) {m1 c0 p1 p2 p3 : List ℕ} (par
   pub long-row : (o s : List ℕ) → o ≡ nextMeans n r → s ≡ sixes (halfPel k) (length (take (n - tailOf k - leadOf k) (drop (leadOf k) o))) r m1 c0 p1 p2 p3 → take (leadOf k) o ++ (s ++ drop (n - tailOf k - leadOf k) (drop (leadOf k) o)) ≡ halfHorizontal k n r
   unfolding halfHorizontal nextMeans sixes
   long-row o s edges kernel =
-      let f : ℕ → ℕ = λ i. around (placed k i n) r i in
+      let f : ℕ → ℕ = λ i. around (halfSample k i n) r i in
       let inner : ℕ → ℕ = sixAt (halfPel k) r m1 c0 p1 p2 p3 in
       let a = leadOf k in
       let e = n - tailOf k in
       let ol : length o ≡ n = ap length edges ∙ tab-length (nextAt n r) n in
       let is : s ≡ tab inner (e - a) = kernel ∙ ap (tab inner) (part-length o a e (omega arith) (omega arith)) in
-      let edge : (i : ℕ) → i < n → isMean k i n ≡ true → getD o i 0 ≡ f i = λ i lt t. ap (λ (l : List ℕ). getD l i 0) edges ∙ tab-at (nextAt n r) n i lt ∙ by-edges k n r i t in
+      let edge : (i : ℕ) → i < n → nearEdge k i n ≡ true → getD o i 0 ≡ f i = λ i lt t. ap (λ (l : List ℕ). getD l i 0) edges ∙ tab-at (nextAt n r) n i lt ∙ by-edges k n r i t in
       back-tab o s a e (omega arith) (omega arith) (ap length is ∙ tab-length inner (e - a)) f n ol
       (λ i lt. edge i (omega arith) (at-front k n r i lt))
-      (λ j lt. ap (λ (l : List ℕ). getD l j 0) is ∙ tab-at inner (e - a) j lt ∙ part-taps j ∙ placed-kernel k (a + j) n _ _ _ _ _ _ (omega (arith, tail-some k)) (between k n r (a + j) (omega arith) (omega arith)))
+      (λ j lt. ap (λ (l : List ℕ). getD l j 0) is ∙ tab-at inner (e - a) j lt ∙ part-taps j ∙ sample-kernel k (a + j) n _ _ _ _ _ _ (omega (arith, tail-some k)) (between k n r (a + j) (omega arith) (omega arith)))
       (λ i le lt. edge i lt (at-tail k n r i (omega arith)))

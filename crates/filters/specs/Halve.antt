@@ -1,10 +1,9 @@
--- Document 01, "Halving": which filter, its weights and edges, a row from six rows, a row of pairs halved, and the same row from its pairs taken apart.
-use mathlib.Core.Path.{_≡_}
-use Prim.Native.Nat.{ℕ, _+_, _*_, _-_, _/_, _≤_, _<_}
+-- Document 01, "Halving": which filter, its weights and edges, a row from six rows, and a row of pairs halved.
+use Prim.Native.Nat.{ℕ, _+_, _*_, _/_}
 use mathlib.Core.Bool.{Bool, true, false, cond, _&&_, _||_}
 use mathlib.Core.List.{List}
 use lib.Dec.{leb, eqb}
-use lib.ListN.{length, getD, set, drop}
+use lib.ListN.{getD, set}
 use lib.IntN.{ℤ, pos, negsuc}
 use Rattle.filters.specs.declared.halving.ReduceFilter.{ReduceFilter}
 use Rattle.filters.specs.declared.halving.ReduceFilter.the-variants.{Average, Bilinear, Quadratic, Cubic}
@@ -68,22 +67,3 @@ horizontalAt f w v x = cond (isEdge f x w) (meanOf (getD v (2 * x) 0) (getD v (2
 -- horizontal: w outputs from the 2 * w bytes of v
 unfoldable pub horizontalRow : ReduceFilter → ℕ → List ℕ → List ℕ
 horizontalRow f w v = tab (horizontalAt f w v) w
-
--- the first k of n pairs of v taken apart: the even bytes stand from place 1 of s on, and the odd ones from place n + 1
-pub record Apart (n k : ℕ) (v s : List ℕ) : Type 0 where
-  pub most : k ≤ n
-  pub room : 2 * n + 2 ≤ length s
-  pub evens : (i : ℕ) → i < k → getD s (i + 1) 0 ≡ getD v (2 * i) 0
-  pub odds : (i : ℕ) → i < k → getD s (n + (i + 1)) 0 ≡ getD v (2 * i + 1) 0
-
--- the weights at each place of n pairs taken apart
-abbrev pub weighedApart : ReduceFilter → ℕ → List ℕ → List ℕ
-weighedApart f n s = sixes (weigh f) n s (drop n s) (drop 1 s) (drop (n + 1) s) (drop 2 s) (drop (n + 2) s)
-
--- the row o, with the mean of the last pair at its last place for all but average
-abbrev pub withLast : ReduceFilter → ℕ → List ℕ → List ℕ → List ℕ
-withLast f n s o = cond (lastIsMean f) (set o (n - 1) (meanOf (getD s n 0) (getD s (2 * n) 0))) o
-
--- n outputs from s, where the pairs of a row stand whose byte 0 is output 0 already (law `reduced-apart`: it is `horizontalRow`)
-unfoldable pub reducedApart : ReduceFilter → ℕ → List ℕ → List ℕ
-reducedApart f n s = set (withLast f n s (weighedApart f n s)) 0 (getD s 1 0)

@@ -3,8 +3,10 @@
 --     Halve     the halving filters: weights, edges, a row from six rows, a row of pairs halved
 --     Refine    the half-pel kernels, and which place takes what
 --     H264      the half sample of ITU-T H.264 over the integers
+--     Inner     what the code goes by on its way
 -- What is proved of these is in proofs/.
 pub mod Row
 pub mod Halve
 pub mod Refine
 pub mod H264
+pub mod Inner

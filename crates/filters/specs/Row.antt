@@ -1,21 +1,12 @@
 -- Rows are lists of bytes, made by a rule at each place. Reading past a row gives 0.
-use Prim.Native.Nat.{ℕ, zero, suc, _+_, _-_, _/_, _≤_}
+use Prim.Native.Nat.{ℕ, zero, suc, _+_, _-_, _/_}
 use mathlib.Core.List.{List, [], _∷_, _++_}
-use lib.ListN.{length, getD}
+use lib.ListN.{getD}
 
 -- f 0, f 1 .. f (n - 1)
 unfoldable pub tab : (ℕ → ℕ) → ℕ → List ℕ
 tab f zero = []
 tab f (suc n) = tab f n ++ (f n ∷ [])
-
--- six bytes, in a wider type
-pub record Low (m2 m1 c0 p1 p2 p3 : ℕ) : Type 0 where
-  pub low-m2 : m2 ≤ 255
-  pub low-m1 : m1 ≤ 255
-  pub low-c0 : c0 ≤ 255
-  pub low-p1 : p1 ≤ 255
-  pub low-p2 : p2 ≤ 255
-  pub low-p3 : p3 ≤ 255
 
 -- "Mean(a, b) = (a + b + 1) >> 1."
 abbrev pub meanOf : ℕ → ℕ → ℕ
@@ -31,15 +22,6 @@ Six = ℕ → ℕ → ℕ → ℕ → ℕ → ℕ → ℕ
 -- at column i of six rows
 abbrev pub sixAt : Six → List ℕ → List ℕ → List ℕ → List ℕ → List ℕ → List ℕ → ℕ → ℕ
 sixAt k m2 m1 c0 p1 p2 p3 i = k (getD m2 i 0) (getD m1 i 0) (getD c0 i 0) (getD p1 i 0) (getD p2 i 0) (getD p3 i 0)
-
--- six rows of n bytes at least
-pub record Reach (n : ℕ) (m2 m1 c0 p1 p2 p3 : List ℕ) : Type 0 where
-  pub in-m2 : n ≤ length m2
-  pub in-m1 : n ≤ length m1
-  pub in-c0 : n ≤ length c0
-  pub in-p1 : n ≤ length p1
-  pub in-p2 : n ≤ length p2
-  pub in-p3 : n ≤ length p3
 
 -- n columns of six rows
 unfoldable pub sixes : Six → ℕ → List ℕ → List ℕ → List ℕ → List ℕ → List ℕ → List ℕ → List ℕ

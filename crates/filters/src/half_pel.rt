@@ -6,8 +6,9 @@ use crate::rows::rest;
 ghost use mathlib.Core.Path.{_≡_};
 ghost use Prim.Native.Nat.{_-_, _≤_, _<_, min};
 ghost use lib.ListN.{length};
-ghost use Rattle.filters.specs.Row.{Reach, sixes};
-ghost use Rattle.filters.specs.Refine.{upscale, leadOf, tailOf, halfPel, nextMeans, halfHorizontal, halfVertical};
+ghost use Rattle.filters.specs.Row.{sixes};
+ghost use Rattle.filters.specs.Refine.{upscale, leadOf, tailOf, halfPel, halfHorizontal, halfVertical};
+ghost use Rattle.filters.specs.Inner.{Reach, naturalPel, nextMeans};
 
 // Document 01's bicubic and Wiener.
 pub enum HalfPel {
@@ -34,7 +35,7 @@ impl CatmullRom {
     pub const ROUND: u16 = 8;
 
     fn apply(m1: u8, c0: u8, p1: u8, p2: u8) -> u8
-        ensures { λ r. ⌜ r ≡ halfPel HalfPel.CatmullRom 0 m1 c0 p1 p2 0 ⌝ }
+        ensures { λ r. ⌜ r ≡ naturalPel HalfPel.CatmullRom 0 m1 c0 p1 p2 0 ⌝ }
     {
         let plus = 9 * ((c0 as u16) + (p1 as u16)) + CatmullRom::ROUND;
         let minus = (m1 as u16) + (p2 as u16);
@@ -50,7 +51,7 @@ impl Wiener {
     pub const ROUND: u16 = 16;
 
     fn apply(m2: u8, m1: u8, c0: u8, p1: u8, p2: u8, p3: u8) -> u8
-        ensures { λ r. ⌜ r ≡ halfPel HalfPel.Wiener m2 m1 c0 p1 p2 p3 ⌝ }
+        ensures { λ r. ⌜ r ≡ naturalPel HalfPel.Wiener m2 m1 c0 p1 p2 p3 ⌝ }
     {
         let plus = (m2 as u16) + 20 * ((c0 as u16) + (p1 as u16)) + (p3 as u16) + Wiener::ROUND;
         let minus = 5 * ((m1 as u16) + (p2 as u16));

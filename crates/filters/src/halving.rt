@@ -5,8 +5,9 @@ use crate::rows::rest;
 ghost use mathlib.Core.Path.{_≡_};
 ghost use Prim.Native.Nat.{_+_, _*_, _≤_, _<_};
 ghost use lib.ListN.{length};
-ghost use Rattle.filters.specs.Row.{Low, Reach, sixes};
-ghost use Rattle.filters.specs.Halve.{chosen, firstRow, lastRow, lastIsMean, isEdge, weigh, restOf, Apart, headed, weighedApart, withLast, reducedApart};
+ghost use Rattle.filters.specs.Row.{sixes};
+ghost use Rattle.filters.specs.Halve.{chosen, firstRow, lastRow, lastIsMean, isEdge, weigh, restOf, headed};
+ghost use Rattle.filters.specs.Inner.{Low, Reach, Apart, weighedApart, withLast, reducedApart};
 
 pub enum ReduceFilter {
     Average,

@@ -1,11 +1,11 @@
 -- A run stored inside a list; rows that are a pitch apart; last loops over rows (`Walked`). Assumes nothing.
 use mathlib.Core.Path.{_≡_, refl, sym, ap, _∙_, subst}
-use mathlib.Core.List.{List, _++_}
+use mathlib.Core.List.{List, [], _++_}
 use Prim.Native.Nat.{ℕ, _+_, _*_, _-_, _≤_, _<_}
 use native.Mathlib.Nat.{mul-le-mul-right, add-mul, one-mul}
 use native.Mathlib.Numerals.{add-one, add-one-le}
 use native.Mathlib.Omega.{arith}
-use lib.ListN.{length, take, drop, replicate, length-take, length-drop, length-replicate}
+use lib.ListN.{length, take, drop, replicate, length-take, length-drop, length-replicate, take-append-drop}
 use mir.Syntax.{Width}
 use mir.Val.{Fits}
 use mir.Facts.{fits-le}
@@ -16,6 +16,10 @@ use Rattle.layouts.specs.Storing.{put, steps}
 pub put-plain : (c : List ℕ) (at : ℕ) (ys : List ℕ) → at ≤ length c → put c at ys ≡ take at c ++ (ys ++ drop (length ys) (drop at c))
 unfolding put
 put-plain c at ys le = let none : at - length c ≡ 0 = omega arith in ap (λ (k : ℕ). take at c ++ (replicate k 0 ++ (ys ++ drop (length ys) (drop at c)))) none
+
+-- no byte is stored
+pub put-none : (c : List ℕ) (at n : ℕ) → at ≤ length c → n ≡ 0 → put c at (replicate n 0) ≡ c
+put-none c at n le e = ap (λ (k : ℕ). put c at (replicate k 0)) e ∙ put-plain c at [] le ∙ take-append-drop at c
 
 -- a part that was lent and comes back as ys
 pub put-lent : (c ys : List ℕ) (at k : ℕ) → length ys ≡ k → at ≤ length c → take at c ++ (ys ++ drop k (drop at c)) ≡ put c at ys

@@ -1,6 +1,6 @@
 -- Longhand records: what reading comes to, case by case, and what writing leaves. Assumes nothing.
 use mathlib.Core.Path.{_≡_, refl, sym, ap, _∙_}
-use mathlib.Core.Bool.{true, not, _||_}
+use mathlib.Core.Bool.{not, _||_}
 use mathlib.Core.List.{List, _++_}
 use Prim.Native.Nat.{ℕ, _+_, _-_, _≤_}
 use native.Mathlib.Omega.{arith}
@@ -10,15 +10,13 @@ use borrow.Author.Tests.{ne-eqb, ltb-false, le-ltb}
 use Rattle.settings.specs.declared.refusal.Refusal.{Refusal}
 use Rattle.settings.specs.declared.super_opts.SuperOpts.{SuperOpts}
 use Rattle.settings.specs.Numbers.{refuse}
-use Rattle.settings.specs.Check.{accepted}
+use Rattle.settings.specs.Check.{recordNo}
 use Rattle.settings.specs.Answers.{answer, complete, number, noRecord, written}
 use Rattle.settings.proofs.Tests.{or-false-left, or-false-right}
 use Rattle.settings.proofs.Refusals.{then-first, then-rest, refuse-not}
 use Rattle.settings.proofs.Known.{given, number-then, number-some, number-not-16, number-of, value-given}
-use Rattle.settings.proofs.Accepted.{record-none}
 use Rattle.settings.proofs.Pasting.{from-start, put-next}
-use Rattle.longhands.specs.declared.longhand.Longhand.{Longhand}
-use Rattle.longhands.specs.LittleEndian.{bytes, littleEndian}
+use Rattle.longhands.specs.LittleEndian.{littleEndian}
 use Rattle.longhands.specs.Kind1.{kind1Body, kind1Record, kind1Good}
 use Rattle.longhands.specs.Longhand.{framed, lengthOf, kindOf, placeAfter, bodyOf, kindLength, isBody, frameNo, longhandNo, noLonghand, longhandAnswer, longhandOf, writeNo, writeAnswer}
 use Rattle.longhands.proofs.Bytes.{bytes-long}
@@ -93,10 +91,13 @@ longhand-long : (r : SuperOpts) → length (longhandOf r) ≡ 21
 unfolding littleEndian kind1Body
 longhand-long r = refl
 
-pub longhand-put : {b o : List ℕ} (r : SuperOpts) (out : List ℕ) → accepted r ≡ true → 21 ≤ length out → b ≡ kind1Body r → o ≡ framed 1 b ++ drop (6 + length b) out → answer 0 o ≡ writeAnswer r out
-longhand-put {b} {o} r out good room is-b put =
+pub write-room : (r : SuperOpts) (out : List ℕ) → writeNo r out ≡ 0 → 21 ≤ length out
+write-room r out e = ltb-false (length out) 21 (refuse-not (ltb (length out) 21) 14 (then-rest (recordNo r) (refuse (ltb (length out) 21) 15) e))
+
+pub longhand-put : {b o : List ℕ} (r : SuperOpts) (out : List ℕ) → writeNo r out ≡ 0 → b ≡ kind1Body r → o ≡ framed 1 b ++ drop (6 + length b) out → answer 0 o ≡ writeAnswer r out
+longhand-put {b} {o} r out none is-b put =
     let whole : o ≡ written (longhandOf r) out =
     put
     ∙ ap (λ (x : List ℕ). framed 1 x ++ drop (6 + length x) out) is-b
     ∙ ap (λ (n : ℕ). longhandOf r ++ drop n out) (ap (λ (n : ℕ). 6 + n) (body-long r) ∙ sym (longhand-long r)) in
-    ap (answer 0) whole ∙ given (writeNo r out) (written (longhandOf r) out) out (rw (record-none r good, le-ltb (length out) 21 room))
+    ap (answer 0) whole ∙ given (writeNo r out) (written (longhandOf r) out) out none

@@ -65,11 +65,9 @@ fn frame_tested(bytes: &[u8]) -> Tested
         return Tested::Refused(Refusal::Longhand(BadLonghand::Short));
     }
     let length = number_4(bytes, 0) as usize;
+    let short = bytes.len() < LENGTH + length;
     Tested::Fine
-        .then_refuse(
-            bytes.len() < LENGTH + length,
-            Refusal::Longhand(BadLonghand::Short),
-        )
+        .then_refuse(short, Refusal::Longhand(BadLonghand::Short))
         .then_refuse(length < 2, Refusal::Longhand(BadLonghand::Length))
 }
 
@@ -102,12 +100,14 @@ fn read_kind_1(bytes: &[u8]) -> Read
 pub fn write_longhand(opts: SuperOpts, out: &mut [u8]) -> Tested
     ensures { λ r. ⌜ answer (tested r) (now (out .exit)) ≡ writeAnswer opts (now (out .entry)) ⌝ }
 {
-    if !opts.accepted() {
-        return Tested::Refused(Refusal::NoRecord);
-    }
-    if out.len() < RECORD {
-        return Tested::Refused(Refusal::Longhand(BadLonghand::Short));
-    }
+    let record = opts.accepted();
+    let lacks = out.len() < RECORD;
+    let t = Tested::Fine
+        .then_refuse(!record, Refusal::NoRecord)
+        .then_refuse(lacks, Refusal::Longhand(BadLonghand::Short));
+    let Tested::Fine = t else {
+        return t;
+    };
     put_framed(out, KIND_1, &body(opts));
     Tested::Fine
 }

@@ -1,5 +1,5 @@
 -- `fused_row` meets its contract. Assumes nothing.
-use mathlib.Core.Path.{_≡_, ap, _∙_, refl}
+use mathlib.Core.Path.{_≡_, ap, _∙_}
 use mathlib.Core.List.{List}
 use Prim.Native.Nat.{ℕ, _+_, _*_, _-_}
 use native.Mathlib.Omega.{arith}
@@ -10,7 +10,7 @@ use Rattle.filters.specs.declared.halving.ReduceFilter.the-variants.{Cubic}
 use Rattle.layouts.specs.Storing.{put}
 use Rattle.builder.specs.Halving.{wholeOf, verticalLine, halveRun}
 use Rattle.builder.proofs.Lines.{line-length, whole-or}
-use Rattle.builder.proofs.Halves.{row-within, fused-run, within-kept, halves-within, line-within}
+use Rattle.builder.proofs.Halves.{row-within, fused-run, within-kept, line-within}
 use borrow.Author.Needs.{needs}
 use Rattle.builder.proofs.halving.fused_row.Statement.{statement}
 use Rattle.builder.proofs.halving.fused_row.Tie as tie
@@ -24,47 +24,26 @@ mul-at c = let entered = c .before .before .before .before .before .before .befo
 add-at : tie.Need-add-at
 add-at c = let entered = c .before .before .before .before .before .before .before .before .before .before in omega (arith, row-within (entered .pre .0) (entered .pre .1))
 
-halve-row-requires : tie.Need-halve-row-requires
-halve-row-requires c κs =
+add-finish-row : tie.Need-add-finish-row
+add-finish-row c = let entered = c .before .before .before .before .before .before .before .before .before .before .before .before in omega (arith, row-within (entered .pre .0) (entered .pre .1))
+
+finish-row-requires : tie.Need-finish-row-requires
+finish-row-requires c κs =
     let at-vertical-row = c .before .before .before .before .before .before .before in
     let entered = at-vertical-row .before .before .before .before .before in
     let k = at-vertical-row .vertical-row .kept .1 in
     let w = within-kept (k .0) (k .1 .0) (entered .pre .0) in
-    (w .some, halves-within w (entered .pre .1), line-within w)
-
-mul-zero-run : tie.Need-mul-zero-run
-mul-zero-run c = search needs
-
-add-zero-run : tie.Need-add-zero-run
-add-zero-run c = let entered = c .before .before .before .before .before .before .before .before .before .before .before .before .before .before .before .before .before .before .before in omega (arith, halves-within (entered .pre .0) (entered .pre .1))
-
-add-zero-run-2 : tie.Need-add-zero-run-2
-add-zero-run-2 c = let entered = c .before .before .before .before .before .before .before .before .before .before .before .before .before .before .before .before .before .before .before in omega (arith, row-within (entered .pre .0) (entered .pre .1))
-
-zero-run-requires : tie.Need-zero-run-requires
-zero-run-requires c κs =
-    let at-halve-row = c .before .before .before .before .before .before in
-    let at-vertical-row = at-halve-row .before .before .before .before .before .before .before .before in
-    let entered = at-vertical-row .before .before .before .before .before in
-    let w = within-kept (at-halve-row .halve-row .kept .1 .0 ∙ at-vertical-row .vertical-row .kept .1 .0) refl (entered .pre .0) in
-    (add-le-add (le-refl _) (w .fits), row-within w (entered .pre .1))
+    (w .some, add-le-add (le-refl _) (w .fits), row-within w (entered .pre .1), line-within w)
 
 same-length : tie.Need-same-length
-same-length c =
-    let at-zero-run = c .before .before in
-    let at-halve-row = at-zero-run .before .before .before .before .before .before .before in
-    let at-vertical-row = at-halve-row .before .before .before .before .before .before .before .before in
-    at-zero-run .zero-run .kept .0 ∙ at-halve-row .halve-row .kept .1 .0 ∙ at-vertical-row .vertical-row .kept .1 .0
+same-length c = c .before .before .before .before .finish-row .kept .1 .0 ∙ c .before .before .before .before .before .before .before .before .before .before .before .before .vertical-row .kept .1 .0
 
 same-length-2 : tie.Need-same-length-2
-same-length-2 c =
-    let at-halve-row = c .before .before .before .before .before .before .before .before .before in
-    let at-vertical-row = at-halve-row .before .before .before .before .before .before .before .before in
-    at-halve-row .halve-row .kept .1 .1 .0 ∙ at-vertical-row .vertical-row .kept .1 .1 .0
+same-length-2 c = c .before .before .before .before .finish-row .kept .1 .1 .0 ∙ c .before .before .before .before .before .before .before .before .before .before .before .before .vertical-row .kept .1 .1 .0
 
 returns : tie.Need-returns
 returns c =
-    let s = c .before .before .before .before .before .before .before .before .before .before .before .before .before .before .before .before .before .before .before .before .before .before in
+    let s = c .before .before .before .before .before .before .before .before .before .before .before .before .before .before .before .before .before in
     let t = s .args .target in
     let w = t .width in
     let p = s .args .pitch in
@@ -72,23 +51,10 @@ returns c =
     let F = now (s .args .frame) in
     let v = verticalLine Cubic (wholeOf Cubic (2 * w)) (2 * w) (t .height) F (s .args .base) p (s .args .y) in
     let n : at + p - (at + 2 * w) ≡ p - 2 * w = omega arith in
-    c .before .before .zero-run .ensures
-    ∙ ap (λ (x : List ℕ). put x (at + 2 * w) (replicate (at + p - (at + 2 * w)) 0)) (c .before .before .before .before .before .before .before .before .before .halve-row .ensures ∙ ap (halveRun Cubic w at) (c .before .before .before .before .before .before .before .before .before .before .before .before .before .before .before .before .before .vertical-row .ensures))
+    c .before .before .before .before .finish-row .ensures
+    ∙ ap (λ (x : List ℕ). put (halveRun Cubic w at x) (at + 2 * w) (replicate (at + p - (at + 2 * w)) 0)) (c .before .before .before .before .before .before .before .before .before .before .before .before .vertical-row .ensures)
     ∙ ap (λ (k : ℕ). put (halveRun Cubic w at (put F at v)) (at + 2 * w) (replicate k 0)) n
     ∙ fused-run p w at F v (line-length Cubic (wholeOf Cubic (2 * w)) (2 * w) (t .height) F (s .args .base) p (s .args .y) (whole-or Cubic (2 * w) .0)) (s .pre .0 .fits) (row-within (s .pre .0) (s .pre .1))
 
 pub fused-row-spec : {M : Type 1} → statement M
-fused-row-spec =
-    tie.close
-    (tie.spec
-    vertical-row-requires
-    mul-at
-    add-at
-    halve-row-requires
-    mul-zero-run
-    add-zero-run
-    add-zero-run-2
-    zero-run-requires
-    same-length
-    same-length-2
-    returns)
+fused-row-spec = tie.close (tie.spec vertical-row-requires mul-at add-at add-finish-row finish-row-requires same-length same-length-2 returns)

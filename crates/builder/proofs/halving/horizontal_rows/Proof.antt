@@ -1,10 +1,13 @@
 -- `horizontal_rows` meets its contract. The loop has halved the rows passed. Assumes nothing.
 use mathlib.Core.Path.{_≡_, refl, _∙_}
 use Prim.Native.Nat.{_+_, _*_, _-_}
+use native.Mathlib.Nat.{le-refl}
 use native.Mathlib.Omega.{arith}
 use lib.ListN.{length}
 use Rattle.layouts.proofs.Loops.{row-fits, Walked, walked-none, walked-more, walked-whole, next-fits, next-less}
+use borrow.Author.Needs.{needs}
 use Rattle.builder.specs.Halving.{halveRun, horizontalRows}
+use Rattle.builder.proofs.Halves.{halve-alone}
 use Rattle.builder.proofs.halving.horizontal_rows.Statement.{statement}
 use Rattle.builder.proofs.halving.horizontal_rows.Tie as tie
 
@@ -23,11 +26,17 @@ mul-at c = omega (arith, row-fits _ _ _ _ _ _ (c .before .before .before .before
 add-at : tie.Need-add-at Inv-loop μ-loop
 add-at c = omega (arith, row-fits _ _ _ _ _ _ (c .before .before .before .before .before .pre .1) (c .before .before .before .before .before .pre .2) (c .before .loop-test .taken))
 
-halve-row-requires : tie.Need-halve-row-requires Inv-loop μ-loop
-halve-row-requires c κs =
+mul-finish-row : tie.Need-mul-finish-row Inv-loop μ-loop
+mul-finish-row c = search needs
+
+add-finish-row : tie.Need-add-finish-row Inv-loop μ-loop
+add-finish-row c = let s = c .before .before .before .before .before .before .before in omega (arith, row-fits _ _ _ _ _ _ (s .pre .1) (s .pre .2) (c .before .before .before .loop-test .taken))
+
+finish-row-requires : tie.Need-finish-row-requires Inv-loop μ-loop
+finish-row-requires c κs =
     let s = c .before .before .before .before .before .before .before in
     let l = c .before .before .before .before .loop in
-    (s .pre .0, omega (arith, row-fits _ _ _ _ _ _ (s .pre .1) (s .pre .2) (c .before .before .before .loop-test .taken), l .inv .0 .same), omega (arith, s .pre .3, l .inv .1))
+    (s .pre .0, le-refl _, omega (arith, row-fits _ _ _ _ _ _ (s .pre .1) (s .pre .2) (c .before .before .before .loop-test .taken), l .inv .0 .same), omega (arith, s .pre .3, l .inv .1))
 
 add-y : tie.Need-add-y Inv-loop μ-loop
 add-y c = next-fits (c .before .before .before .before .before .before .before .before .loop-test .taken) (c .before .before .before .before .before .before .before .struct-known .given .1 .1 .0)
@@ -37,9 +46,13 @@ loop-less c = next-less (c .before .before .before .before .before .before .befo
 
 loop-again : tie.Need-loop-again Inv-loop μ-loop
 loop-again c =
+    let s = c .before .before .before .before .before .before .before .before .before .before .before .before in
     let l = c .before .before .before .before .before .before .before .before .before .loop in
-    let v = c .before .before .before .before .halve-row in
-    (walked-more (l .inv .0) (c .before .before .before .before .before .before .before .before .loop-test .taken) (v .kept .1 .0) (v .ensures), v .kept .1 .1 .0 ∙ l .inv .1)
+    let lt = c .before .before .before .before .before .before .before .before .loop-test .taken in
+    let v = c .before .before .before .before .finish-row in
+    let w = s .args .target .width in
+    let at = s .args .target .offset + l .y * s .args .pitch in
+    (walked-more (l .inv .0) lt (v .kept .1 .0) (v .ensures ∙ halve-alone (s .args .filter) w at _ (omega (arith, row-fits _ _ _ _ _ _ (s .pre .1) (s .pre .2) lt, l .inv .0 .same))), v .kept .1 .1 .0 ∙ l .inv .1)
 
 same-length : tie.Need-same-length Inv-loop μ-loop
 same-length c = c .before .loop .inv .0 .same
@@ -60,7 +73,9 @@ horizontal-rows-spec =
     loop-holds
     mul-at
     add-at
-    halve-row-requires
+    mul-finish-row
+    add-finish-row
+    finish-row-requires
     add-y
     loop-less
     loop-again

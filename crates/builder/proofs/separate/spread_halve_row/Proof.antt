@@ -1,11 +1,11 @@
 -- `spread_halve_row` meets its contract. Assumes nothing.
+use Rattle.filters.specs.Inner.{reducedApart}
 use mathlib.Core.Path.{sym, ap, _∙_}
 use mathlib.Core.List.{_++_}
 use Prim.Native.Nat.{ℕ}
 use native.Mathlib.Omega.{arith}
 use borrow.Table.Elements.{same-len}
 use denote.Ref.{now}
-use Rattle.filters.specs.Halve.{reducedApart}
 use Rattle.layouts.specs.Storing.{put}
 use Rattle.builder.proofs.Spreads.{half-line, halved-run}
 use borrow.Author.Needs.{needs}

@@ -2,7 +2,8 @@
 use mathlib.Core.Path.{subst}
 use mathlib.Core.List.{List}
 use Prim.Native.Nat.{ℕ}
-use Rattle.filters.specs.Halve.{Apart, headed}
+use Rattle.filters.specs.Halve.{headed}
+use Rattle.filters.specs.Inner.{Apart}
 use borrow.Author.Needs.{needs}
 use Rattle.builder.proofs.separate.take_row.Statement.{statement}
 use Rattle.builder.proofs.separate.take_row.Tie as tie

@@ -1,4 +1,5 @@
 -- `mean_with_next` meets its contract. Assumes nothing.
+use Rattle.filters.specs.Inner.{nextMeans}
 use mathlib.Core.Path.{refl, sym, ap}
 use native.Mathlib.Omega.{arith}
 use Prim.Native.Nat.{_-_}
@@ -6,7 +7,6 @@ use denote.Ref.{now}
 use lib.ListN.{length, length-drop}
 use lib.Seq.{length-take-le}
 use borrow.Author.Needs.{needs}
-use Rattle.filters.specs.Refine.{nextMeans}
 use Rattle.filters.proofs.Filling.{filled-none, filled-whole}
 use Rattle.filters.proofs.Places.{next-made}
 use Rattle.filters.proofs.half_pel.mean_with_next.Statement.{statement}

@@ -1,9 +1,9 @@
 -- `take_apart` meets its contract. Assumes nothing.
+use Rattle.filters.specs.Inner.{Apart}
 use mathlib.Core.Path.{_≡_, refl}
 use Prim.Native.Nat.{_-_}
 use native.Mathlib.Omega.{arith}
 use lib.ListN.{length, length-set}
-use Rattle.filters.specs.Halve.{Apart}
 use Rattle.filters.proofs.Pairs.{apart-none, apart-more}
 use Rattle.filters.proofs.halving.take_apart.Statement.{statement}
 use Rattle.filters.proofs.halving.take_apart.Tie as tie

@@ -17,8 +17,8 @@ number-4-requires c κs = search needs
 cast-length : tie.Need-cast-length
 cast-length c = search needs
 
-add-then-refuse : tie.Need-add-then-refuse
-add-then-refuse c = search needs
+add-short : tie.Need-add-short
+add-short c = search needs
 
 then-refuse-requires : tie.Need-then-refuse-requires
 then-refuse-requires c κs = search needs
@@ -41,7 +41,7 @@ frame-tested-spec =
     returns
     number-4-requires
     cast-length
-    add-then-refuse
+    add-short
     then-refuse-requires
     then-refuse-requires-2
     returns-2)
