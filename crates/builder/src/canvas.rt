@@ -1,10 +1,13 @@
 // The canvas: a frame and, past its end, the lent spill, as one run of bytes. Reading past both gives 0.
 // Reading, a part that is a window on it, and storing. Each run is cut once, where the frame ends, and no byte is tested by itself.
 ghost use mathlib.Core.Path.{_≡_};
+ghost use mathlib.Core.Bool.{cond};
 ghost use mathlib.Core.List.{_++_};
 ghost use Prim.Native.Nat.{_+_, _-_, _≤_};
 ghost use lib.ListN.{length, replicate};
-ghost use Rattle.layouts.specs.Storing.{put};
+ghost use denote.Ref.{ptr};
+ghost use lib.Dec.{leb};
+ghost use Rattle.layouts.specs.Storing.{put, partAt};
 ghost use Rattle.builder.specs.Canvas.{fetch};
 use filters::rows::copy_row;
 use filters::rows::zero_row;
@@ -12,7 +15,7 @@ use filters::rows::zero_row;
 // The n bytes of c from start, which lie in it.
 pub fn span(c: &[u8], start: usize, n: usize) -> &[u8]
     requires { ⌜ start + n ≤ length (now c) ⌝ }
-    ensures { λ r. ⌜ (now r ≡ fetch (now (c .entry)) start n) × (length (now r) ≡ n) ⌝ }
+    ensures { λ r. ⌜ (now r ≡ fetch (now (c .entry)) start n) × (length (now r) ≡ n) × (ptr r ≡ partAt (c .entry) start) ⌝ }
 {
     &c[start..start + n]
 }
@@ -61,7 +64,7 @@ fn fetched<'a>(
     n: usize,
 ) -> &'a [u8]
     requires { ⌜ n ≤ length (now scratch) ⌝ }
-    ensures { λ r. ⌜ (now r ≡ fetch (now (frame .entry) ++ now (spill .entry)) start n) × (length (now r) ≡ n) ⌝ }
+    ensures { λ r. ⌜ (now r ≡ fetch (now (frame .entry) ++ now (spill .entry)) start n) × (length (now r) ≡ n) × (ptr r ≡ partAt (scratch .entry) 0) ⌝ }
 {
     let out = &mut scratch[..n];
     fetch(out, frame, spill, start);
@@ -77,15 +80,16 @@ pub(crate) fn window<'a>(
     n: usize,
 ) -> &'a [u8]
     requires { ⌜ n ≤ length (now scratch) ⌝ }
-    ensures { λ r. ⌜ (now r ≡ fetch (now (frame .entry) ++ now (spill .entry)) start n) × (length (now r) ≡ n) ⌝ }
+    ensures { λ r. ⌜ (now r ≡ fetch (now (frame .entry) ++ now (spill .entry)) start n) × (length (now r) ≡ n) × (ptr r ≡ cond (leb (start + n) (length (now (frame .entry)))) (partAt (frame .entry) start) (partAt (scratch .entry) 0)) ⌝ }
 {
     let len = frame.len();
-    if start <= len {
-        if n <= len - start {
-            return span(frame, start, n);
-        }
+    if len < start {
+        return fetched(frame, spill, scratch, start, n);
     }
-    fetched(frame, spill, scratch, start, n)
+    if len - start < n {
+        return fetched(frame, spill, scratch, start, n);
+    }
+    span(frame, start, n)
 }
 
 // For a row that lies in c whole; `store` is for one that may leave the frame.

@@ -3,7 +3,7 @@ use mathlib.Core.Path.{_≡_, ap}
 use mathlib.Core.List.{List}
 use Prim.Native.Nat.{ℕ}
 use contract.Lifetimes.{Lfts}
-use denote.Ref.{now}
+use denote.Ref.{ptr, now}
 use Rattle.settings.specs.declared.refusal.Tested.{Tested}
 use Rattle.settings.proofs.Outcome.{OneOutcome, settled, itself}
 use Rattle.settings.proofs.Known.{tested-known}
@@ -30,6 +30,16 @@ use Rattle.layouts.proofs.rows.row_tested.Reads as row-tested-reads
 use Rattle.layouts.proofs.rows.row_place.Reads as row-place-reads
 use Rattle.layouts.proofs.rows.row.Reads as row-reads
 use Rattle.layouts.proofs.margins.clear_margins.Reads as clear-margins-reads
+use Rattle.settings.proofs.super_opts.levels_of.Reads as levels-of-reads
+use Rattle.layouts.proofs.levels.width.Reads as width-reads
+use Rattle.layouts.proofs.levels.height.Reads as height-reads
+use Rattle.layouts.proofs.levels.offset.Reads as offset-reads
+use Rattle.layouts.proofs.levels.region.Reads as region-reads
+use Rattle.layouts.proofs.lent.spill_need.Reads as spill-need-reads
+use Rattle.layouts.proofs.lent.build_tested.Reads as build-tested-reads
+use Rattle.layouts.proofs.margins.is_fused.Reads as is-fused-reads
+use Rattle.builder.proofs.canvas.put.Reads as put-reads
+use Rattle.builder.proofs.canvas.span.Reads as span-reads
 use Rattle.planes.proofs.build.build_plane.Reads as build-plane-reads
 pub use Rattle.settings.proofs.Unique.{from-opt-unique, accepted-unique, pack-data-unique, super-height-unique, super-width-unique, read-word-unique, prepare-alike-unique, reduce-dim-unique, naturals-unique, number-unique, then-refuse-unique, is-fine-unique, natural-unique, bit-unique, to-bits-unique, from-bits-unique}
 pub use Rattle.longhands.proofs.Unique.{read-longhand-unique, write-longhand-unique}
@@ -80,6 +90,37 @@ half-vertical-unique κs x r s e f p q = settled itself p q
 pub half-horizontal-unique : (κs : Lfts 2) → OneOutcome (half-horizontal-reads.Post κs) (λ r e. now (e .1 .0))
 half-horizontal-unique κs x r s e f p q = settled itself p q
 
+-- ---- inner calls
+pub levels-of-unique : (κs : Lfts 0) → OneOutcome (levels-of-reads.Post κs) (λ r e. r)
+levels-of-unique κs x r s e f p q = settled itself p q
+
+pub width-unique : (κs : Lfts 0) → OneOutcome (width-reads.Post κs) (λ r e. r)
+width-unique κs x r s e f p q = settled itself p q
+
+pub height-unique : (κs : Lfts 0) → OneOutcome (height-reads.Post κs) (λ r e. r)
+height-unique κs x r s e f p q = settled itself p q
+
+pub offset-unique : (κs : Lfts 0) → OneOutcome (offset-reads.Post κs) (λ r e. r)
+offset-unique κs x r s e f p q = settled itself p q
+
+pub region-unique : (κs : Lfts 0) → OneOutcome (region-reads.Post κs) (λ r e. r)
+region-unique κs x r s e f p q = settled itself p q
+
+pub spill-need-unique : (κs : Lfts 0) → OneOutcome (spill-need-reads.Post κs) (λ r e. r)
+spill-need-unique κs x r s e f p q = settled itself p q
+
+pub build-tested-unique : (κs : Lfts 0) → OneOutcome (build-tested-reads.Post κs) (λ r e. r)
+build-tested-unique κs x r s e f p q = settled tested-known p q
+
+pub is-fused-unique : (κs : Lfts 0) → OneOutcome (is-fused-reads.Post κs) (λ r e. r)
+is-fused-unique κs x r s e f p q = settled itself p q
+
+pub put-unique : (κs : Lfts 2) → OneOutcome (put-reads.Post κs) (λ r e. now (e .0))
+put-unique κs x r s e f p q = settled itself p q
+
+pub span-unique : (κs : Lfts 1) → OneOutcome {O = (ℕ × ℕ) × List ℕ} (span-reads.Post κs) (λ r e. (ptr r, now r))
+span-unique κs x r s e f p q = rw (settled itself (p .0) (q .0), settled itself (p .2) (q .2))
+
 -- ---- the calls of `layouts` and `planes`
 pub level-regions-unique : (κs : Lfts 0) → OneOutcome (level-regions-reads.Post κs) (λ r e. r)
 level-regions-unique κs x r s e f p q = settled laid-known p q
@@ -96,9 +137,9 @@ row-tested-unique κs x r s e f p q = settled tested-known p q
 pub row-place-unique : (κs : Lfts 0) → OneOutcome (row-place-reads.Post κs) (λ r e. r)
 row-place-unique κs x r s e f p q = settled placed-known p q
 
--- the bytes of the row
-pub row-unique : (κs : Lfts 1) → OneOutcome (row-reads.Post κs) (λ r e. now r)
-row-unique κs x r s e f p q = settled itself p q
+-- the bytes of the row, and where they lie
+pub row-unique : (κs : Lfts 1) → OneOutcome {O = (ℕ × ℕ) × List ℕ} (row-reads.Post κs) (λ r e. (ptr r, now r))
+row-unique κs x r s e f p q = rw (settled itself (p .0) (q .0), settled itself (p .1) (q .1))
 
 -- the answer and the frame
 pub clear-margins-unique : (κs : Lfts 1) → OneOutcome {O = Tested × List ℕ} (clear-margins-reads.Post κs) (λ r e. (r, now (e .0)))

@@ -69,6 +69,10 @@ placeAnswer q len l k y = complete (rowNo q len l k y) (runOf q l k y) noRun
 unfoldable pub rowPart : Layout → List ℕ → ℕ → ℕ → ℕ → List ℕ
 rowPart q f l k y = cond (eqb (rowNo q (length f) l k y) 0) (take (widthAt q l) (drop (rowStart q l k y) f)) []
 
+-- "handed out as the caller's own frame bytes, never a copy": where in the frame it starts, at its front where it is refused
+abbrev pub rowFrom : Layout → ℕ → ℕ → ℕ → ℕ → ℕ
+rowFrom q len l k y = cond (eqb (rowNo q len l k y) 0) (rowStart q l k y) 0
+
 -- clearing margins, with the frame that it leaves: "no refusal changes a lent byte"
 abbrev pub clearAnswer : Layout → List ℕ → Answer (List ℕ)
 clearAnswer q f = complete (frameNo q (length f)) (cleared q f) f

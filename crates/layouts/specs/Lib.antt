@@ -1,5 +1,5 @@
 -- Document 01, "Settings and sizes" and "Numbers a call can give", for a plane of a frame, as definitions. In the order to read them:
---     Storing    a run stored in a list of bytes, and steps in order
+--     Storing    a run stored in a list of bytes, steps in order, and where a part of a slice lies
 --     Layout     a plane's levels, and where they lie
 --     Margins    which levels are fused, and the margins of those that aren't
 --     Numbers    the numbers that a call refuses with

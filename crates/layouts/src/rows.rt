@@ -1,10 +1,13 @@
 // A row of a frame: the number that says whether there is one, where it lies, and its bytes, which are the caller's own.
 ghost use mathlib.Core.Path.{_≡_};
 ghost use mathlib.Core.Bool.{false};
+ghost use lib.ListN.{length};
+ghost use denote.Ref.{ptr};
 ghost use Rattle.settings.specs.Answers.{tested};
+ghost use Rattle.layouts.specs.Storing.{partAt};
 ghost use Rattle.layouts.specs.Layout.{rowStart};
 ghost use Rattle.layouts.specs.Numbers.{layoutNo, noRow, rowNo};
-ghost use Rattle.layouts.specs.Answers.{placed, placeAnswer, rowPart};
+ghost use Rattle.layouts.specs.Answers.{placed, placeAnswer, rowPart, rowFrom};
 use crate::layout::Layout;
 use crate::levels::frame_tested;
 use crate::levels::height;
@@ -72,7 +75,7 @@ pub fn row_place(layout: Layout, len: usize, level: u32, plane: usize, y: usize)
 
 // Row y of a plane of a level: a part of the frame, empty when refused.
 pub fn row(frame: &[u8], layout: Layout, level: u32, plane: usize, y: usize) -> &[u8]
-    ensures { λ r. ⌜ now r ≡ rowPart layout (now (frame .entry)) level plane y ⌝ }
+    ensures { λ r. ⌜ (now r ≡ rowPart layout (now (frame .entry)) level plane y) × (ptr r ≡ partAt (frame .entry) (rowFrom layout (length (now (frame .entry))) level plane y)) ⌝ }
 {
     let t = row_tested(layout, frame.len(), level, plane, y);
     if !t.is_fine() {

@@ -1,5 +1,5 @@
 -- `span` meets its contract. Assumes nothing.
-use mathlib.Core.Path.{ap, _∙_}
+use mathlib.Core.Path.{refl, ap, _∙_}
 use Prim.Native.Nat.{ℕ}
 use native.Mathlib.Nat.{add-sub-cancel-left}
 use lib.ListN.{length, take, drop}
@@ -25,7 +25,7 @@ returns : tie.Need-returns
 returns c =
     let a = c .before .args in
     let e = ap (λ (k : ℕ). take k (drop (a .start) (now (a .c)))) (add-sub-cancel-left (a .start) (a .n)) ∙ fetch-part (now (a .c)) (a .start) (a .n) (c .before .pre) in
-    (e, ap length e ∙ fetch-length (now (a .c)) (a .start) (a .n))
+    (e, ap length e ∙ fetch-length (now (a .c)) (a .start) (a .n), refl)
 
 pub span-spec : {M : Type 1} → statement M
 span-spec = tie.close (tie.spec add-result sub-result part-result-start part-result-end returns)

@@ -3,13 +3,14 @@ use mathlib.Core.Path.{_≡_, sym, ap, _∙_}
 use mathlib.Core.Bool.{true}
 use mathlib.Core.List.{[]}
 use Prim.Native.Nat.{ℕ, _+_, _-_, _≤_}
-use native.Mathlib.Nat.{add-sub-cancel-left}
+use native.Mathlib.Nat.{zero-add, add-sub-cancel-left}
 use native.Mathlib.Omega.{arith}
 use borrow.Author.Tests.{not-true, not-false, eqb-true}
 use lib.Dec.{eqb}
 use lib.ListN.{length, take, drop}
 use denote.Ref.{now}
 use borrow.Author.Needs.{needs}
+use Rattle.layouts.specs.Storing.{partAt}
 use Rattle.layouts.specs.Layout.{widthAt, rowStart}
 use Rattle.layouts.specs.Numbers.{rowNo}
 use Rattle.layouts.specs.Answers.{rowPart}
@@ -41,8 +42,9 @@ unfolding rowPart
 returns c =
     let s = c .before .before .before .before .before .args in
     let t = c .before .before in
-    sym (cond-no (eqb (rowNo (s .layout) (length (now (s .frame))) (s .level) (s .plane) (s .y)) 0) (take (widthAt (s .layout) (s .level)) (drop (rowStart (s .layout) (s .level) (s .plane) (s .y)) (now (s .frame)))) []
-    (ap (λ (n : ℕ). eqb n 0) (sym (t .before .row-tested .ensures)) ∙ sym (t .is-fine .ensures) ∙ not-true (t .is-fine .result) (c .before .if1 .taken)))
+    let no = ap (λ (n : ℕ). eqb n 0) (sym (t .before .row-tested .ensures)) ∙ sym (t .is-fine .ensures) ∙ not-true (t .is-fine .result) (c .before .if1 .taken) in
+    let start = rowStart (s .layout) (s .level) (s .plane) (s .y) in
+    (sym (cond-no _ (take (widthAt (s .layout) (s .level)) (drop start (now (s .frame)))) [] no), sym (ap (partAt (s .frame)) (cond-no _ start 0 no) ∙ ap (λ (n : ℕ). (s .frame .ptr .0, n)) (zero-add (s .frame .ptr .1))))
 
 row-start-requires : tie.Need-row-start-requires
 row-start-requires c κs = let r = stored c in (r .frame .layout, r .none)
@@ -67,10 +69,12 @@ unfolding rowPart
 returns-2 c =
     let k = c .before in
     let s = k .before .before .before .before .before .before .args in
-    let q = s .layout in
-    ap (λ (n : ℕ). take n (drop (k .before .row-start .result) (now (s .frame)))) (add-sub-cancel-left (k .before .row-start .result) (k .width .result))
-    ∙ rw (k .before .row-start .ensures, k .width .ensures)
-    (sym (cond-yes (eqb (rowNo q (length (now (s .frame))) (s .level) (s .plane) (s .y)) 0) (take (widthAt q (s .level)) (drop (rowStart q (s .level) (s .plane) (s .y)) (now (s .frame)))) [] (fine (k .before .before))))
+    let q = s .layout in (
+      ap (λ (n : ℕ). take n (drop (k .before .row-start .result) (now (s .frame)))) (add-sub-cancel-left (k .before .row-start .result) (k .width .result))
+          ∙ rw (k .before .row-start .ensures, k .width .ensures)
+          (sym (cond-yes (eqb (rowNo q (length (now (s .frame))) (s .level) (s .plane) (s .y)) 0) (take (widthAt q (s .level)) (drop (rowStart q (s .level) (s .plane) (s .y)) (now (s .frame)))) [] (fine (k .before .before)))),
+      ap (partAt (s .frame)) (k .before .row-start .ensures ∙ sym (cond-yes _ (rowStart q (s .level) (s .plane) (s .y)) 0 (fine (k .before .before)))),
+    )
 
 pub row-spec : {M : Type 1} → statement M
 row-spec =
