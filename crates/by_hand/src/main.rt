@@ -1,5 +1,5 @@
 // Document 01, "Checked by hand", what is run by a program: the number of a frame that is exactly long enough and of one a byte short, whether targets 8, 7 and 10 wide fuse, and the bytes of level 1 that refining overwrites.
-// A fused level keeps the margins that it has when they are cleared; another's are zeroed. Last, the smallest picture whose build depends on bytes past the written end.
+// A fused level keeps the margins that it has when they are cleared, and zeroes them from 2 * width on when it is built; another's are zeroed, and keep what they held. Last, the smallest picture whose build depends on bytes past the written end.
 use layouts::layout::Layout;
 use layouts::margins::clear_margins;
 use libc::STDOUT_FILENO;
@@ -32,6 +32,18 @@ fn main() {
     print(
         b"target 10 wide, margin byte: ",
         margin(layout(1, 20, 16, 0, 32), 512 + 10),
+    );
+    print(
+        b"target 8 wide, built, byte at 2 * width: ",
+        built_margin(layout(1, 16, 16, 0, 32), 512 + 16),
+    );
+    print(
+        b"target 7 wide, built, byte at 2 * width: ",
+        built_margin(layout(1, 28, 16, 1, 32), 512 + 14),
+    );
+    print(
+        b"target 10 wide, built, byte at 2 * width: ",
+        built_margin(layout(1, 20, 16, 0, 32), 512 + 20),
     );
     overwritten();
     print(
@@ -207,6 +219,24 @@ fn margin(layout: Layout, at: usize) -> u32 {
 
 fn byte_after(frame: &mut [u8], layout: Layout, at: usize) -> u32 {
     clear_margins(frame, layout);
+    byte_at(frame, at)
+}
+
+// A byte of a frame of ones after a build from zeros.
+fn built_margin(layout: Layout, at: usize) -> u32 {
+    let mut frame = [1u8; 1024];
+    byte_of_build(&mut frame, layout, at)
+}
+
+fn byte_of_build(frame: &mut [u8], layout: Layout, at: usize) -> u32 {
+    let src = [0u8; 512];
+    if built(frame, layout, &src, 32) != 0 {
+        return 98;
+    }
+    byte_at(frame, at)
+}
+
+fn byte_at(frame: &[u8], at: usize) -> u32 {
     if at < frame.len() {
         return wide(frame[at]);
     }
