@@ -14,7 +14,7 @@ use Rattle.settings.specs.Answers.{Answer, answer, number, written}
 use Rattle.settings.proofs.Known.{number-some, number-not-16, number-of}
 use Rattle.settings.proofs.Tests.{or-false-left, or-false-right}
 use Rattle.longhands.specs.declared.longhand.Longhand.{Longhand}
-use Rattle.longhands.specs.Longhand.{lengthOf, kindOf, placeAfter, bodyOf, kindLength, isBody, frameNo, longhandNo, noLonghand, longhandAnswer}
+use Rattle.longhands.specs.Longhand.{lengthOf, kindOf, placeAfter, bodyOf, isKnown, kindLength, isBody, lengthNo, longhandNo, noLonghand, longhandAnswer}
 use Rattle.answers.specs.Fields.{numbersOf}
 use Rattle.answers.specs.Lent.{lowest, tells}
 use Rattle.exports.specs.Calls.{longhandReadNo, fieldsTells, placeTells}
@@ -33,8 +33,8 @@ rows-high false false false false true = refl
 rows-high false false false false false = refl
 
 none-low : (l : List ℕ) → low (longhandNo l) ≡ false
-unfolding longhandNo frameNo
-none-low l = rows-high (ltb (length l) 4 || ltb (length l) (placeAfter l)) (ltb (lengthOf l) 2) (eqb (kindLength (kindOf l)) 0) (not (eqb (lengthOf l) (kindLength (kindOf l)))) (not (isBody (kindOf l) (bodyOf l)))
+unfolding longhandNo lengthNo
+none-low l = rows-high (ltb (length l) 4 || ltb (length l) (placeAfter l)) (ltb (lengthOf l) 2) (not (isKnown (kindOf l))) (not (eqb (lengthOf l) (kindLength (kindOf l)))) (not (isBody (kindOf l) (bodyOf l)))
 
 short-15 : (l : List ℕ) → lowest (longhandNo l) true ≡ 15
 short-15 l = rw (none-low l)

@@ -10,7 +10,7 @@ use Rattle.settings.specs.Check.{settingsNo, accepted}
 use Rattle.settings.specs.Answers.{noRecord}
 use Rattle.longhands.specs.LittleEndian.{littleEndian, valueOf}
 use Rattle.longhands.specs.Kind1.{kind1Body, kind1Record}
-use Rattle.longhands.specs.Longhand.{frameNo, longhandNo, longhandOf}
+use Rattle.longhands.specs.Longhand.{lengthNo, longhandNo, longhandOf}
 
 -- ---- document 02, order 1: the longhand of 64x48 with defaults but down -2, byte by byte
 abbrev written : SuperOpts
@@ -34,7 +34,7 @@ longhand-by-hand = refl
 
 -- the numbers, in their order: 15 short of the length field, 15 short of the length, 17 with no kind to read, 16 whatever the length, 17 for kind 1, 18 for a record of zeros, 0
 pub numbers : List ℕ
-unfolding littleEndian valueOf kind1Body kind1Record frameNo longhandNo levelsIn settingsNo accepted
+unfolding littleEndian valueOf kind1Body kind1Record lengthNo longhandNo levelsIn settingsNo accepted
 numbers =
     longhandNo (17 ∷ 0 ∷ 0 ∷ [])
     ∷ longhandNo (17 ∷ 0 ∷ 0 ∷ 0 ∷ 9 ∷ 0 ∷ [])
@@ -46,5 +46,5 @@ numbers =
     ∷ []
 
 pub numbers-by-hand : numbers ≡ 15 ∷ 15 ∷ 17 ∷ 16 ∷ 17 ∷ 18 ∷ 0 ∷ []
-unfolding numbers littleEndian valueOf kind1Body kind1Record frameNo longhandNo levelsIn settingsNo accepted
+unfolding numbers littleEndian valueOf kind1Body kind1Record lengthNo longhandNo levelsIn settingsNo accepted
 numbers-by-hand = refl

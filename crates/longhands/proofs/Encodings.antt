@@ -1,6 +1,6 @@
 -- What document 02 asks of longhand records: every accepted record survives writing and reading (`survives`), one record has one encoding (`read-exactly`, `one-encoding`), and nothing past a record's own bytes counts (`own-bytes`). Assumes nothing.
 use mathlib.Core.Path.{_≡_, refl, sym, ap, _∙_, subst}
-use mathlib.Core.Bool.{Bool, true, false, cond, not, _||_}
+use mathlib.Core.Bool.{Bool, true, false, not, _||_}
 use mathlib.Core.List.{List, _++_}
 use mathlib.Core.Logic.{_↔_}
 use Prim.Native.Nat.{ℕ, _+_, _-_, _≤_, _<_}
@@ -15,16 +15,16 @@ use Rattle.settings.specs.declared.super_opts.SuperOpts.{SuperOpts}
 use Rattle.settings.specs.Numbers.{isI32, refuse, _then_}
 use Rattle.settings.specs.Check.{accepted}
 use Rattle.settings.specs.Answers.{Answer, answer}
-use Rattle.settings.proofs.Tests.{and-left, and-right, or-false-left, or-false-right, yes-no}
+use Rattle.settings.proofs.Tests.{and-left, and-right, or-false-left, or-false-right}
 use Rattle.settings.proofs.Refusals.{then-first, then-rest, refuse-not}
 use Rattle.settings.proofs.Known.{number-of}
 use Rattle.longhands.specs.declared.longhand.Longhand.{Longhand}
 use Rattle.longhands.specs.LittleEndian.{bytes, littleEndian, valueOf}
 use Rattle.longhands.specs.Kind1.{kind1Body, flagsAt, kind1Record, kind1Good}
-use Rattle.longhands.specs.Longhand.{framed, lengthOf, kindOf, placeAfter, bodyOf, kindLength, isBody, recordIn, frameNo, longhandNo, noLonghand, longhandBy, longhandAnswer, longhandOf, kind1Bytes, Begins}
+use Rattle.longhands.specs.Longhand.{framed, lengthOf, kindOf, placeAfter, bodyOf, isKnown, kindLength, isBody, recordIn, lengthNo, longhandNo, noLonghand, longhandBy, longhandAnswer, longhandOf, kind1Bytes, Begins}
 use Rattle.longhands.proofs.Bytes.{value-back, part-back, part-bytes, part-own}
 use Rattle.longhands.proofs.Bodies.{body-long, record-back, body-good, body-back, down-read, up-read}
-use Rattle.longhands.proofs.Longhands.{Whole, whole, whole-none, frame-refused, by-body}
+use Rattle.longhands.proofs.Longhands.{Whole, whole, whole-none, length-refused, by-body}
 
 -- ---- a frame is read back, whatever follows it
 module _ (kind : ℕ) (body rest : List ℕ) (known : kind < 65536) (fits : length body < 65536) where
@@ -47,7 +47,7 @@ module _ (kind : ℕ) (body rest : List ℕ) (known : kind < 65536) (fits : leng
   unfolding littleEndian
   framed-long = omega (arith, length-append body rest)
 
-  frame-fine : frameNo (framed kind body ++ rest) ≡ 0
+  frame-fine : lengthNo (framed kind body ++ rest) ≡ 0
   frame-fine =
       whole-none (framed kind body ++ rest)
       (record {
@@ -88,25 +88,21 @@ record Spelled (l : List ℕ) : Type 0 where
   long : lengthOf l ≡ 17
   good : kind1Good (bodyOf l) ≡ true
 
-one-kind : (k : ℕ) (t : Bool) → eqb k 1 ≡ t → eqb (cond t 17 0) 0 ≡ false → k ≡ 1
-one-kind k true e h = eqb-true k 1 e
-one-kind k false e h = absurd (yes-no h)
-
 spelled : (l : List ℕ) → longhandNo l ≡ 0 → Spelled l
 unfolding longhandNo
 spelled l e =
-    let a = refuse (eqb (kindLength (kindOf l)) 0) 16 in
+    let a = refuse (not (isKnown (kindOf l))) 16 in
     let b = refuse (not (eqb (lengthOf l) (kindLength (kindOf l)))) 17 in
     let c = refuse (not (isBody (kindOf l) (bodyOf l))) 18 in
-    let ab = then-first (frameNo l then a then b) c e in
-    let fa = then-first (frameNo l then a) b ab in
-    let kind = one-kind (kindOf l) (eqb (kindOf l) 1) refl (refuse-not (eqb (kindLength (kindOf l)) 0) 15 (then-rest (frameNo l) a fa)) in
-    let long = eqb-true (lengthOf l) (kindLength (kindOf l)) (not-false (eqb (lengthOf l) (kindLength (kindOf l))) (refuse-not (not (eqb (lengthOf l) (kindLength (kindOf l)))) 16 (then-rest (frameNo l then a) b ab))) in
+    let ab = then-first (lengthNo l then a then b) c e in
+    let fa = then-first (lengthNo l then a) b ab in
+    let kind = eqb-true (kindOf l) 1 (not-false (isKnown (kindOf l)) (refuse-not (not (isKnown (kindOf l))) 15 (then-rest (lengthNo l) a fa))) in
+    let long = eqb-true (lengthOf l) (kindLength (kindOf l)) (not-false (eqb (lengthOf l) (kindLength (kindOf l))) (refuse-not (not (eqb (lengthOf l) (kindLength (kindOf l)))) 16 (then-rest (lengthNo l then a) b ab))) in
     record {
-      frame = whole l (then-first (frameNo l) a fa);
+      frame = whole l (then-first (lengthNo l) a fa);
       kind = kind;
       long = long ∙ ap kindLength kind;
-      good = ap (λ (k : ℕ). isBody k (bodyOf l)) (sym kind) ∙ not-false (isBody (kindOf l) (bodyOf l)) (refuse-not (not (isBody (kindOf l) (bodyOf l))) 17 (then-rest (frameNo l then a then b) c e));
+      good = ap (λ (k : ℕ). isBody k (bodyOf l)) (sym kind) ∙ not-false (isBody (kindOf l) (bodyOf l)) (refuse-not (not (isBody (kindOf l) (bodyOf l))) 17 (then-rest (lengthNo l then a then b) c e));
     }
 
 read-begins : (l : List ℕ) → bytes l ≡ true → longhandNo l ≡ 0 → Begins l (kind1Record (bodyOf l))
@@ -150,7 +146,7 @@ pub one-encoding : (l m : List ℕ) (r : SuperOpts) → Begins l r → Begins m 
 one-encoding l m r p q = p .front ∙ sym (q .front)
 
 -- ---- "gives the place after it by the length": of a record whose bytes are all there, whatever stands after them
-same-answer : (m l : List ℕ) → frameNo m ≡ frameNo l → lengthOf m ≡ lengthOf l → kindOf m ≡ kindOf l → bodyOf m ≡ bodyOf l → longhandAnswer m ≡ longhandAnswer l
+same-answer : (m l : List ℕ) → lengthNo m ≡ lengthNo l → lengthOf m ≡ lengthOf l → kindOf m ≡ kindOf l → bodyOf m ≡ bodyOf l → longhandAnswer m ≡ longhandAnswer l
 unfolding longhandNo
 same-answer m l e n k b = rw (e, b, k, n)
 
@@ -166,8 +162,8 @@ module _ (l rest : List ℕ) (field : 4 ≤ length l) (own : placeAfter l ≤ le
 
   -- a length below 2 is refused before any kind is read
   below-2 : (x : List ℕ) → 4 ≤ length x → placeAfter x ≤ length x → lengthOf x < 2 → answer 17 (noLonghand 0) ≡ longhandAnswer x
-  unfolding frameNo
-  below-2 x f o h = frame-refused x (OfLonghand Length) (rw (le-ltb (length x) 4 f, le-ltb (length x) (placeAfter x) o, lt-ltb (lengthOf x) 2 h))
+  unfolding lengthNo
+  below-2 x f o h = length-refused x (OfLonghand Length) (rw (le-ltb (length x) 4 f, le-ltb (length x) (placeAfter x) o, lt-ltb (lengthOf x) 2 h))
 
   same-by : (t : Bool) → ltb (lengthOf l) 2 ≡ t → longhandAnswer m ≡ longhandAnswer l
   same-by true e =
@@ -183,7 +179,7 @@ module _ (l rest : List ℕ) (field : 4 ≤ length l) (own : placeAfter l ≤ le
   same-read = same-by (ltb (lengthOf l) 2) refl
 
 short : (l : List ℕ) (t : Bool) → (ltb (length l) 4 || ltb (length l) (placeAfter l)) ≡ t → (longhandNo l ≡ 15 → ⊥) → t ≡ false
-unfolding longhandNo frameNo
+unfolding longhandNo lengthNo
 short l true e h = absurd (h (rw e))
 short l false e h = refl
 

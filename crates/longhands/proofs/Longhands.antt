@@ -18,7 +18,7 @@ use Rattle.settings.proofs.Known.{given, number-then, number-some, number-not-1
 use Rattle.settings.proofs.Pasting.{from-start, put-next}
 use Rattle.longhands.specs.LittleEndian.{littleEndian}
 use Rattle.longhands.specs.Kind1.{kind1Body, kind1Record, kind1Good}
-use Rattle.longhands.specs.Longhand.{framed, lengthOf, kindOf, placeAfter, bodyOf, kindLength, isBody, frameNo, longhandNo, noLonghand, longhandAnswer, longhandOf, writeNo, writeAnswer}
+use Rattle.longhands.specs.Longhand.{framed, lengthOf, kindOf, placeAfter, bodyOf, isKnown, kindLength, isBody, lengthNo, longhandNo, noLonghand, longhandAnswer, longhandOf, writeNo, writeAnswer}
 use Rattle.longhands.proofs.Bytes.{bytes-long}
 use Rattle.longhands.proofs.Bodies.{body-long}
 
@@ -29,8 +29,8 @@ pub record Whole (l : List ℕ) : Type 0 where
   pub own : placeAfter l ≤ length l
   pub kind : 2 ≤ lengthOf l
 
-pub whole : (l : List ℕ) → frameNo l ≡ 0 → Whole l
-unfolding frameNo
+pub whole : (l : List ℕ) → lengthNo l ≡ 0 → Whole l
+unfolding lengthNo
 whole l e =
     let short = ltb (length l) 4 in
     let cut = ltb (length l) (placeAfter l) in
@@ -42,38 +42,38 @@ whole l e =
       kind = ltb-false (lengthOf l) 2 (refuse-not none 16 (then-rest (refuse (short || cut) 15) (refuse none 17) e));
     }
 
-pub whole-none : (l : List ℕ) → Whole l → frameNo l ≡ 0
-unfolding frameNo
+pub whole-none : (l : List ℕ) → Whole l → lengthNo l ≡ 0
+unfolding lengthNo
 whole-none l w = rw (le-ltb (length l) 4 (w .field), le-ltb (length l) (placeAfter l) (w .own), le-ltb (lengthOf l) 2 (w .kind))
 
 -- ---- what reading comes to
-pub frame-refused : (l : List ℕ) (f : Refusal) → number f ≡ frameNo l → answer (number f) (noLonghand 0) ≡ longhandAnswer l
+pub length-refused : (l : List ℕ) (f : Refusal) → number f ≡ lengthNo l → answer (number f) (noLonghand 0) ≡ longhandAnswer l
 unfolding longhandNo
-frame-refused l f e =
-    let a = refuse (eqb (kindLength (kindOf l)) 0) 16 in
+length-refused l f e =
+    let a = refuse (not (isKnown (kindOf l))) 16 in
     let b = refuse (not (eqb (lengthOf l) (kindLength (kindOf l)))) 17 in
     let c = refuse (not (isBody (kindOf l) (bodyOf l))) 18 in
     rw (← e, ← number-then f a, ← number-then f b, ← number-then f c, number-some f, number-not-16 f)
 
-pub kind-unknown : (l : List ℕ) → frameNo l ≡ 0 → (kindOf l ≡ 1 → ⊥) → answer 16 (noLonghand (placeAfter l)) ≡ longhandAnswer l
+pub kind-unknown : (l : List ℕ) → lengthNo l ≡ 0 → (kindOf l ≡ 1 → ⊥) → answer 16 (noLonghand (placeAfter l)) ≡ longhandAnswer l
 unfolding longhandNo
 kind-unknown l e h = rw (e, ne-eqb (kindOf l) 1 h)
 
-pub length-other : (l : List ℕ) → frameNo l ≡ 0 → kindOf l ≡ 1 → (lengthOf l ≡ 17 → ⊥) → answer 17 (noLonghand 0) ≡ longhandAnswer l
+pub length-other : (l : List ℕ) → lengthNo l ≡ 0 → kindOf l ≡ 1 → (lengthOf l ≡ 17 → ⊥) → answer 17 (noLonghand 0) ≡ longhandAnswer l
 unfolding longhandNo
 length-other l e k h = rw (e, k, ne-eqb (lengthOf l) 17 h)
 
-pub by-body : (l : List ℕ) → frameNo l ≡ 0 → kindOf l ≡ 1 → lengthOf l ≡ 17 → longhandNo l ≡ refuse (not (kind1Good (bodyOf l))) 18
+pub by-body : (l : List ℕ) → lengthNo l ≡ 0 → kindOf l ≡ 1 → lengthOf l ≡ 17 → longhandNo l ≡ refuse (not (kind1Good (bodyOf l))) 18
 unfolding longhandNo
 by-body l e k n = rw (e, k, n)
 
 -- b is the body, and `given` what reading it answers
-pub body-read : {r : SuperOpts} {b : List ℕ} (l : List ℕ) → frameNo l ≡ 0 → kindOf l ≡ 1 → lengthOf l ≡ 17 → b ≡ bodyOf l → answer 0 r ≡ complete (refuse (not (kind1Good b)) 18) (kind1Record b) noRecord → answer 0 (record { opts = r; after = placeAfter l }) ≡ longhandAnswer l
+pub body-read : {r : SuperOpts} {b : List ℕ} (l : List ℕ) → lengthNo l ≡ 0 → kindOf l ≡ 1 → lengthOf l ≡ 17 → b ≡ bodyOf l → answer 0 r ≡ complete (refuse (not (kind1Good b)) 18) (kind1Record b) noRecord → answer 0 (record { opts = r; after = placeAfter l }) ≡ longhandAnswer l
 body-read {r} {b} l e k n same given =
     let none = by-body l e k n ∙ ap (λ (x : List ℕ). refuse (not (kind1Good x)) 18) (sym same) ∙ sym (number-of given) in
     rw (none, k, ← same, value-given (kind1Record b) noRecord given)
 
-pub body-refused : {b : List ℕ} (l : List ℕ) (f : Refusal) → frameNo l ≡ 0 → kindOf l ≡ 1 → lengthOf l ≡ 17 → b ≡ bodyOf l → answer (number f) noRecord ≡ complete (refuse (not (kind1Good b)) 18) (kind1Record b) noRecord → answer (number f) (noLonghand 0) ≡ longhandAnswer l
+pub body-refused : {b : List ℕ} (l : List ℕ) (f : Refusal) → lengthNo l ≡ 0 → kindOf l ≡ 1 → lengthOf l ≡ 17 → b ≡ bodyOf l → answer (number f) noRecord ≡ complete (refuse (not (kind1Good b)) 18) (kind1Record b) noRecord → answer (number f) (noLonghand 0) ≡ longhandAnswer l
 body-refused l f e k n same given = rw (by-body l e k n ∙ ap (λ (x : List ℕ). refuse (not (kind1Good x)) 18) (sym same) ∙ sym (number-of given), number-some f, number-not-16 f)
 
 -- ---- what writing leaves

@@ -1,5 +1,5 @@
 -- Document 02, order 1: the longhand record. First its frame: "length (4 bytes, counting what follows), kind (2 bytes, ..)", then a body; then the kinds that are known; last the number and value of reading and of writing.
--- A further kind adds a case to `kindLength`, `isBody` and `recordIn`, and a body of its own beside Kind1.
+-- A further kind adds a case to `isKnown`, `kindLength`, `isBody` and `recordIn`, and a body of its own beside Kind1.
 use Prim.Native.Nat.{ℕ, _+_, _-_}
 use mathlib.Core.Path.{_≡_}
 use mathlib.Core.Bool.{Bool, true, false, cond, not, _||_}
@@ -34,7 +34,10 @@ abbrev pub bodyOf : List ℕ → List ℕ
 bodyOf l = take (lengthOf l - 2) (drop 6 l)
 
 -- ---- the kinds
--- the length that a kind has; 0 of a kind that isn't known
+abbrev pub isKnown : ℕ → Bool
+isKnown kind = eqb kind 1
+
+-- the length of a kind that is known
 abbrev pub kindLength : ℕ → ℕ
 kindLength kind = cond (eqb kind 1) kind1Length 0
 
@@ -48,16 +51,16 @@ recordIn kind body = cond (eqb kind 1) (kind1Record body) noRecord
 
 -- ---- reading
 -- "15 bytes run short of the length field or of the length"; "a length below 2 is 17 before any kind is read"
-unfoldable pub frameNo : List ℕ → ℕ
-frameNo l =
+unfoldable pub lengthNo : List ℕ → ℕ
+lengthNo l =
     refuse (ltb (length l) 4 || ltb (length l) (placeAfter l)) 15
     then refuse (ltb (lengthOf l) 2) 17
 
 -- "16 unknown kind, 17 length isn't the kind's .., 18 contents aren't an accepted record or a spare flag is set; in that order"
 unfoldable pub longhandNo : List ℕ → ℕ
 longhandNo l =
-    frameNo l
-    then refuse (eqb (kindLength (kindOf l)) 0) 16
+    lengthNo l
+    then refuse (not (isKnown (kindOf l))) 16
     then refuse (not (eqb (lengthOf l) (kindLength (kindOf l)))) 17
     then refuse (not (isBody (kindOf l) (bodyOf l))) 18
 

@@ -5,7 +5,7 @@ ghost use mathlib.Core.List.{_++_};
 ghost use Prim.Native.Nat.{_+_, _≤_, _<_, _^_};
 ghost use lib.ListN.{length, drop};
 ghost use Rattle.settings.specs.Answers.{answer, tested};
-ghost use Rattle.longhands.specs.Longhand.{framed, kindOf, frameNo, readAs, longhandAnswer, writeAnswer};
+ghost use Rattle.longhands.specs.Longhand.{framed, kindOf, lengthNo, readAs, longhandAnswer, writeAnswer};
 use crate::kind1::BODY;
 use crate::kind1::LENGTH as KIND_1_LENGTH;
 use crate::kind1::body;
@@ -51,15 +51,15 @@ pub enum Read {
 pub fn read_longhand(bytes: &[u8]) -> Read
     ensures { λ r. ⌜ readAs r ≡ longhandAnswer (now (bytes .entry)) ⌝ }
 {
-    match frame_tested(bytes) {
+    match length_tested(bytes) {
         Tested::Fine => read_kind(bytes),
         Tested::Refused(f) => Read::Refused(f),
     }
 }
 
 // What is refused before a kind is read.
-fn frame_tested(bytes: &[u8]) -> Tested
-    ensures { λ r. ⌜ tested r ≡ frameNo (now (bytes .entry)) ⌝ }
+fn length_tested(bytes: &[u8]) -> Tested
+    ensures { λ r. ⌜ tested r ≡ lengthNo (now (bytes .entry)) ⌝ }
 {
     if bytes.len() < LENGTH {
         return Tested::Refused(Refusal::Longhand(BadLonghand::Short));
@@ -72,7 +72,7 @@ fn frame_tested(bytes: &[u8]) -> Tested
 }
 
 fn read_kind(bytes: &[u8]) -> Read
-    requires { ⌜ frameNo (now bytes) ≡ 0 ⌝ }
+    requires { ⌜ lengthNo (now bytes) ≡ 0 ⌝ }
     ensures { λ r. ⌜ readAs r ≡ longhandAnswer (now (bytes .entry)) ⌝ }
 {
     if number_2(bytes, LENGTH) == KIND_1 {
@@ -82,7 +82,7 @@ fn read_kind(bytes: &[u8]) -> Read
 }
 
 fn read_kind_1(bytes: &[u8]) -> Read
-    requires { ⌜ (frameNo (now bytes) ≡ 0) × (kindOf (now bytes) ≡ 1) ⌝ }
+    requires { ⌜ (lengthNo (now bytes) ≡ 0) × (kindOf (now bytes) ≡ 1) ⌝ }
     ensures { λ r. ⌜ readAs r ≡ longhandAnswer (now (bytes .entry)) ⌝ }
 {
     let length = number_4(bytes, 0) as usize;
