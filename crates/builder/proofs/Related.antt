@@ -16,7 +16,7 @@ use Rattle.filters.specs.declared.half_pel.Upscale.{Upscale}
 use Rattle.filters.specs.declared.half_pel.Upscale.the-variants.{Means, Kernel}
 use Rattle.filters.specs.Row.{tab, meanOf, meansOf, sixes}
 use Rattle.filters.specs.Halve.{firstRow, lastRow, isEdge, weigh, restOf, headed, horizontalAt, horizontalRow}
-use Rattle.filters.specs.Refine.{isMean, halfPel, placed, halfHorizontal, halfVertical}
+use Rattle.filters.specs.Refine.{nearEdge, halfPel, halfSample, halfHorizontal, halfVertical}
 use Rattle.filters.proofs.Tests.{below-or}
 use Rattle.filters.proofs.Kernels.{rest-cubic}
 use Rattle.filters.proofs.Tables.{tab-length, tab-at}
@@ -159,9 +159,9 @@ module _ {E : ℕ → ℕ → Type 0} (B : Bytes E) where
 
   -- ---- half places
   module _ (k : HalfPel) (K : Kernels E k) where
-    at-place : (i n m2 m1 c0 p1 p2 p3 x2 x1 x0 y1 y2 y3 : ℕ) → E m2 x2 → E m1 x1 → E c0 x0 → E p1 y1 → E p2 y2 → E p3 y3 → E (placed k i n m2 m1 c0 p1 p2 p3) (placed k i n x2 x1 x0 y1 y2 y3)
+    at-place : (i n m2 m1 c0 p1 p2 p3 x2 x1 x0 y1 y2 y3 : ℕ) → E m2 x2 → E m1 x1 → E c0 x0 → E p1 y1 → E p2 y2 → E p3 y3 → E (halfSample k i n m2 m1 c0 p1 p2 p3) (halfSample k i n x2 x1 x0 y1 y2 y3)
     at-place i n m2 m1 c0 p1 p2 p3 x2 x1 x0 y1 y2 y3 a b c d e f =
-        by-test E (leb n (i + 1)) _ _ _ _ c (by-test E (isMean k i n) _ _ _ _ (B .mean c0 p1 x0 y1 c d) (K .halves m2 m1 c0 p1 p2 p3 x2 x1 x0 y1 y2 y3 a b c d e f))
+        by-test E (leb n (i + 1)) _ _ _ _ c (by-test E (nearEdge k i n) _ _ _ _ (B .mean c0 p1 x0 y1 c d) (K .halves m2 m1 c0 p1 p2 p3 x2 x1 x0 y1 y2 y3 a b c d e f))
 
     pub rel-across : (n : ℕ) (r s : List ℕ) → Rel E r s → Rel E (halfHorizontal k n r) (halfHorizontal k n s)
     unfolding halfHorizontal
