@@ -4,10 +4,10 @@ ghost use Prim.Native.Nat.{_≤_};
 use libc::STDIN_FILENO;
 use libc::STDOUT_FILENO;
 use lines::limits::MOST_INPUT;
-use lines::longhand::longhand_line;
 use lines::parting::line_end;
 use lines::text::Line;
 use lines::text::line_out;
+use longhand_lines::longhand::longhand_line;
 
 // Which program answers: which build each stored word names, or longhand records and settings.
 pub enum Program {

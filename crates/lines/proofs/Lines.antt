@@ -16,7 +16,7 @@ use borrow.Author.Tests.{lt-ltb, le-ltb, eqb-true}
 use Rattle.lines.specs.declared.text.Line.{Line}
 use Rattle.lines.specs.declared.text.Number.the-variants.{Value, Other}
 use Rattle.settings.specs.Numbers.{bit}
-use Rattle.lines.specs.Text.{isHex, hexOf, isDigit, allDigits, numberOf, hexRead, digits, decimal, signed, spaced, hexDigit, hexDigits, hexText, shown, Appended}
+use Rattle.lines.specs.Text.{isHex, hexOf, isDigit, allDigits, numberOf, hexRead, digits, signed, spaced, shown, Appended}
 use Rattle.settings.proofs.Tests.{and-left, and-right}
 use Rattle.settings.proofs.Integers.{same}
 
@@ -66,25 +66,6 @@ pub less : (k n : ℕ) → 10 ≤ n → n < 10 ^ k → (2 ≤ k) × (n / 10 < 10
 less zero n h lt = absurd (omega arith)
 less (suc zero) n h lt = absurd (omega arith)
 less (suc (suc k)) n h lt = rw (sub-one (suc (suc k))) (omega arith, omega (arith, pow-suc 10 (suc k)))
-
--- ---- hexadecimal digits, the last one apart; a byte more
-pub hex-none : (n : ℕ) → [] ≡ hexDigits 0 n
-unfolding hexDigits
-hex-none n = refl
-
-pub hex-more : (k n : ℕ) → 1 ≤ k → hexDigits k n ≡ hexDigits (k - 1) (n / 16) ++ (hexDigit (n % 16) ∷ [])
-unfolding hexDigits
-hex-more zero n some = absurd (omega arith)
-hex-more (suc k) n some = rw (sub-one (suc k))
-
-pub bytes-none : [] ≡ hexText []
-unfolding hexText
-bytes-none = refl
-
-pub bytes-more : (l : List ℕ) (b : ℕ) → hexText (l ++ (b ∷ [])) ≡ hexText l ++ hexDigits 2 b
-unfolding hexText
-bytes-more [] b = append-nil (hexDigits 2 b)
-bytes-more (a ∷ l) b = rw (bytes-more l b) (sym (append-assoc (hexDigits 2 a) (hexText l) (hexDigits 2 b)))
 
 -- ---- digits one by one: those from place i on
 module _ (base : ℕ) (l : List ℕ) (i : ℕ) (h : i < length l) where

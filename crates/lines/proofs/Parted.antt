@@ -1,55 +1,28 @@
--- Text parted, byte by byte. Assumes nothing.
+-- An input parted into lines, byte by byte. Assumes nothing.
 use mathlib.Core.Path.{_≡_, refl, sym, ap, _∙_}
 use mathlib.Core.Bool.{Bool, true, false, cond}
 use mathlib.Core.List.{List, [], _∷_}
 use Prim.Native.Nat.{ℕ, zero, suc, _+_, _-_, _≤_, _<_}
-use native.Mathlib.Numerals.{add-one, sub-one}
+use native.Mathlib.Numerals.{add-one}
 use native.Mathlib.Omega.{arith}
 use lib.Dec.{leb, eqb}
 use lib.ListN.{length, getD, take, drop, length-drop, drop-of-length-le}
 use lib.Seq.{drop-cons, take-all, getD-drop}
 use borrow.Author.Tests.{leb-true, leb-false, eqb-true, eq-eqb}
-use Rattle.settings.specs.Numbers.{bit}
-use Rattle.lines.specs.Parting.{before, times, firstField, otherFields, fieldAt, LineEnd}
+use Rattle.lines.specs.Parting.{before, LineEnd}
 
--- ---- a byte more
-module _ (b : ℕ) (l : List ℕ) (i : ℕ) (h : i < length l) where
-  pub before-next : before b (drop i l) ≡ cond (eqb (getD l i 0) b) 0 (suc (before b (drop (i + 1) l)))
-  unfolding before
-  before-next = rw (drop-cons l i 0 h, add-one i)
-
-  pub times-next : times b (drop i l) ≡ bit (eqb (getD l i 0) b) + times b (drop (i + 1) l)
-  unfolding times
-  times-next = rw (drop-cons l i 0 h, add-one i)
-
-module _ (b : ℕ) (l : List ℕ) (i : ℕ) (h : length l ≤ i) where
-  pub before-end : before b (drop i l) ≡ 0
-  unfolding before
-  before-end = rw (drop-of-length-le l h)
-
-  pub times-end : times b (drop i l) ≡ 0
-  unfolding times
-  times-end = rw (drop-of-length-le l h)
-
--- ---- what stands after the first field, as a part that goes on to the end; and a field more
+-- ---- a part that goes on to the end
 pub part-rest : (n : ℕ) (l : List ℕ) → take (length l - n) (drop n l) ≡ drop n l
 part-rest n l = take-all (length l - n) (drop n l) (omega (arith, length-drop n l))
 
-pub rest-none : (l : List ℕ) (n : ℕ) → n ≡ before 32 l → length l ≤ n → take (length l - n) (drop n l) ≡ otherFields l
-rest-none l n e h =
-    part-rest n l ∙ drop-of-length-le l h ∙ sym (drop-of-length-le l {i = suc (before 32 l)} (omega (arith, e)))
+-- ---- a byte more
+pub before-next : (b : ℕ) (l : List ℕ) (i : ℕ) → i < length l → before b (drop i l) ≡ cond (eqb (getD l i 0) b) 0 (suc (before b (drop (i + 1) l)))
+unfolding before
+before-next b l i h = rw (drop-cons l i 0 h, add-one i)
 
-pub rest-some : (l : List ℕ) (n : ℕ) → n ≡ before 32 l → take (length l - (n + 1)) (drop (n + 1) l) ≡ otherFields l
-rest-some l n e = part-rest (n + 1) l ∙ ap (λ (k : ℕ). drop k l) (add-one n ∙ ap suc e)
-
-pub field-first : (l : List ℕ) (k : ℕ) → k ≡ 0 → firstField l ≡ fieldAt l k
-unfolding fieldAt
-field-first l k e = rw e
-
-pub field-next : (l : List ℕ) (k : ℕ) → 1 ≤ k → fieldAt (otherFields l) (k - 1) ≡ fieldAt l k
-unfolding fieldAt
-field-next l zero h = absurd (omega arith)
-field-next l (suc k) h = rw (sub-one (suc k))
+pub before-end : (b : ℕ) (l : List ℕ) (i : ℕ) → length l ≤ i → before b (drop i l) ≡ 0
+unfolding before
+before-end b l i h = rw (drop-of-length-le l h)
 
 -- ---- the first b
 pub before-most : (b : ℕ) (l : List ℕ) → before b l ≤ length l

@@ -54,18 +54,6 @@ abbrev pub signed : ℤ → List ℕ
 signed (pos n) = decimal n
 signed (negsuc n) = 45 ∷ decimal (suc n)
 
--- ---- out: hexadecimal, the last k digits of n; and two for each byte
-abbrev pub hexDigit : ℕ → ℕ
-hexDigit d = cond (ltb d 10) (48 + d) (87 + d)
-
-unfoldable pub hexDigits : ℕ → ℕ → List ℕ
-hexDigits zero n = []
-hexDigits (suc k) n = hexDigits k (n / 16) ++ (hexDigit (n % 16) ∷ [])
-
-unfoldable pub hexText : List ℕ → List ℕ
-hexText [] = []
-hexText (b ∷ l) = hexDigits 2 b ++ hexText l
-
 -- "parted by single spaces"
 abbrev pub spaced : List ℕ → List ℕ
 spaced l = 32 ∷ l

@@ -3,10 +3,10 @@
 ghost use mathlib.Core.Path.{_≡_};
 ghost use mathlib.Core.Bool.{true};
 ghost use mathlib.Core.List.{[], _∷_};
-ghost use Prim.Native.Nat.{_+_, _*_, _^_, _≤_, _<_};
+ghost use Prim.Native.Nat.{_+_, _^_, _≤_, _<_};
 ghost use lib.ListN.{length};
 ghost use Rattle.settings.specs.Numbers.{bit};
-ghost use Rattle.lines.specs.Text.{isHex, hexOf, isDigit, allDigits, numberOf, hexRead, digits, decimal, magnitude, signed, spaced, hexDigit, hexDigits, hexText, optional, described, wordLine, sizesText, flagsText, filtersText, lineOut, room, shown, Appended};
+ghost use Rattle.lines.specs.Text.{isHex, hexOf, isDigit, allDigits, numberOf, hexRead, digits, decimal, magnitude, signed, spaced, optional, described, wordLine, sizesText, flagsText, filtersText, lineOut, room, shown, Appended};
 use settings::numbers::natural;
 use settings::super_opts::OptInt;
 use settings::word::Description;
@@ -24,7 +24,7 @@ fn is_hex(b: u8) -> bool
     ((48 <= b) & (b <= 57)) | ((97 <= b) & (b <= 102))
 }
 
-pub(crate) fn hex_of(b: u8) -> u64
+pub fn hex_of(b: u8) -> u64
     requires { ⌜ isHex b ≡ true ⌝ }
     ensures { λ r. ⌜ (r ≡ hexOf b) × (r < 16) ⌝ }
 {
@@ -43,7 +43,7 @@ fn is_digit(b: u8, base: u64) -> bool
     hex_of(b) < base
 }
 
-pub(crate) fn all_digits(line: &[u8], base: u64) -> bool
+pub fn all_digits(line: &[u8], base: u64) -> bool
     ensures { λ r. ⌜ r ≡ allDigits base (now (line .entry)) ⌝ }
 {
     for i in 0..line.len() {
@@ -55,7 +55,7 @@ pub(crate) fn all_digits(line: &[u8], base: u64) -> bool
 }
 
 // The number that digits make.
-pub(crate) fn number_of(line: &[u8], base: u64) -> u64
+pub fn number_of(line: &[u8], base: u64) -> u64
     requires { ⌜ (base ≤ 16) × (length (now line) ≤ 16) × (allDigits base (now line) ≡ true) ⌝ }
     ensures { λ r. ⌜ r ≡ numberOf base 0 (now (line .entry)) ⌝ }
 {
@@ -79,16 +79,6 @@ pub fn hex_word(line: &[u8]) -> Number
     Number::Value(number_of(line, 16))
 }
 
-fn hex_digit(d: u64) -> u8
-    requires { ⌜ d < 16 ⌝ }
-    ensures { λ r. ⌜ r ≡ hexDigit d ⌝ }
-{
-    if d < 10 {
-        return (48 + d) as u8;
-    }
-    (87 + d) as u8
-}
-
 // How far an integer is from 0.
 fn magnitude(z: i32) -> u64
     ensures { λ r. ⌜ r ≡ magnitude z ⌝ }
@@ -109,7 +99,7 @@ pub struct Line {
 }
 
 impl Line {
-    pub(crate) fn new() -> Line
+    pub fn new() -> Line
         ensures { λ r. ⌜ r .len ≡ 0 ⌝ }
     {
         Line {
@@ -118,7 +108,7 @@ impl Line {
         }
     }
 
-    pub(crate) fn with_byte(self, b: u8) -> Line
+    pub fn with_byte(self, b: u8) -> Line
         requires { ⌜ self .len < room ⌝ }
         ensures { λ r. ⌜ Appended self r (b ∷ []) 1 ⌝ }
     {
@@ -141,21 +131,21 @@ impl Line {
             .with_byte((48 + n % 10) as u8)
     }
 
-    pub(crate) fn with_decimal(self, n: u64) -> Line
+    pub fn with_decimal(self, n: u64) -> Line
         requires { ⌜ self .len + 20 ≤ room ⌝ }
         ensures { λ r. ⌜ Appended self r (decimal n) 20 ⌝ }
     {
         self.with_digits(n, 20)
     }
 
-    pub(crate) fn with_number(self, n: u64) -> Line
+    pub fn with_number(self, n: u64) -> Line
         requires { ⌜ self .len + 21 ≤ room ⌝ }
         ensures { λ r. ⌜ Appended self r (spaced (decimal n)) 21 ⌝ }
     {
         self.with_byte(b' ').with_decimal(n)
     }
 
-    pub(crate) fn with_int(self, z: i32) -> Line
+    pub fn with_int(self, z: i32) -> Line
         requires { ⌜ self .len + 22 ≤ room ⌝ }
         ensures { λ r. ⌜ Appended self r (spaced (signed z)) 22 ⌝ }
     {
@@ -167,34 +157,11 @@ impl Line {
         self.with_number(magnitude(z))
     }
 
-    pub(crate) fn with_bool(self, b: bool) -> Line
+    fn with_bool(self, b: bool) -> Line
         requires { ⌜ self .len + 21 ≤ room ⌝ }
         ensures { λ r. ⌜ Appended self r (spaced (decimal (bit b))) 21 ⌝ }
     {
         self.with_number(b as u64)
-    }
-
-    // The last `count` hexadecimal digits of n.
-    pub(crate) fn with_hex(self, n: u64, count: usize) -> Line
-        requires { ⌜ self .len + count ≤ room ⌝ }
-        ensures { λ r. ⌜ Appended self r (hexDigits count n) count ⌝ }
-    {
-        if count == 0 {
-            return self;
-        }
-        self.with_hex(n / 16, count - 1)
-            .with_byte(hex_digit(n % 16))
-    }
-
-    pub(crate) fn with_hex_bytes(self, bytes: &[u8]) -> Line
-        requires { ⌜ self .len + 2 * length (now bytes) ≤ room ⌝ }
-        ensures { λ r. ⌜ Appended self r (hexText (now (bytes .entry))) (2 * length (now (bytes .entry))) ⌝ }
-    {
-        let mut next = self;
-        for i in 0..bytes.len() {
-            next = next.with_hex(bytes[i] as u64, 2);
-        }
-        next
     }
 
     fn with_optional(self, o: OptInt) -> Line
@@ -218,7 +185,7 @@ impl Line {
             .with_int(d.gpu)
     }
 
-    pub(crate) fn with_flags(self, full: bool, rc: bool, lean: bool) -> Line
+    pub fn with_flags(self, full: bool, rc: bool, lean: bool) -> Line
         requires { ⌜ self .len + 63 ≤ room ⌝ }
         ensures { λ r. ⌜ Appended self r (flagsText full rc lean) 63 ⌝ }
     {

@@ -3,8 +3,7 @@ use mathlib.Core.Path.{sym, ap, _∙_}
 use native.Mathlib.Omega.{arith}
 use borrow.Author.Needs.{needs}
 use Rattle.lines.specs.Text.{lineOf}
-use Rattle.lines.proofs.Lines.{_after_, empty}
-use Rattle.lines.proofs.Lines.{word-length}
+use Rattle.lines.proofs.Lines.{_after_, empty, word-length}
 use Rattle.lines.proofs.text.line_out.Statement.{statement}
 use Rattle.lines.proofs.text.line_out.Tie as tie
 
