@@ -22,7 +22,7 @@ pub new-unique : (κs : Lfts 0) → OneOutcome (new-reads.Post κs) (λ r e. sho
 new-unique κs x r s e f p q = empty r p ∙ sym (empty s q)
 
 pub line-out-unique : (κs : Lfts 1) → OneOutcome (line-out-reads.Post κs) (λ r e. shown r)
-line-out-unique κs x r s e f p q = settled itself (p .0) (q .0)
+line-out-unique κs x r s e f p q = settled itself (p .text) (q .text)
 
 pub bytes-before-unique : (κs : Lfts 1) → OneOutcome (bytes-before-reads.Post κs) (λ r e. r)
 bytes-before-unique κs x r s e f p q = settled itself (p .0) (q .0)

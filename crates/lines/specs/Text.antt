@@ -14,6 +14,7 @@ use Rattle.lines.specs.declared.text.Number.{Number}
 use Rattle.lines.specs.declared.text.Number.the-variants.{Value, Other}
 use Rattle.settings.specs.Numbers.{bit}
 use Rattle.settings.specs.Answers.{readAnswer}
+use Rattle.lines.specs.Limits.{mostPrinted}
 
 -- ---- in: "A line of 16 digits 0-9a-f"
 abbrev pub isHex : ℕ → Bool
@@ -107,3 +108,9 @@ shown l = take (l .len) (l .bytes)
 pub record Appended (l r : Line) (t : List ℕ) (k : ℕ) : Type 0 where
   pub text : shown r ≡ shown l ++ t
   pub room : r .len ≤ l .len + k
+
+-- r is t, what is printed for a line of k bytes
+pub record Printed (k : ℕ) (r : Line) (t : List ℕ) : Type 0 where
+  pub text : shown r ≡ t
+  pub room : r .len ≤ room
+  pub most : r .len ≤ mostPrinted (k + 1)

@@ -6,7 +6,7 @@ ghost use mathlib.Core.List.{[], _∷_};
 ghost use Prim.Native.Nat.{_+_, _^_, _≤_, _<_};
 ghost use lib.ListN.{length};
 ghost use Rattle.settings.specs.Numbers.{bit};
-ghost use Rattle.lines.specs.Text.{isHex, hexOf, isDigit, allDigits, numberOf, hexRead, digits, decimal, magnitude, signed, spaced, optional, described, wordLine, sizesText, flagsText, filtersText, lineOut, room, shown, Appended};
+ghost use Rattle.lines.specs.Text.{isHex, hexOf, isDigit, allDigits, numberOf, hexRead, digits, decimal, magnitude, signed, spaced, optional, described, wordLine, sizesText, flagsText, filtersText, lineOut, room, Appended, Printed};
 use settings::numbers::natural;
 use settings::super_opts::OptInt;
 use settings::word::Description;
@@ -235,7 +235,7 @@ impl Line {
 
 // The line that is printed for a line of the input.
 pub fn line_out(line: &[u8]) -> Line
-    ensures { λ r. ⌜ (shown r ≡ lineOut (now (line .entry))) × (r .len ≤ room) ⌝ }
+    ensures { λ r. ⌜ Printed (length (now (line .entry))) r (lineOut (now (line .entry))) ⌝ }
 {
     match hex_word(line) {
         Number::Value(v) => Line::new().with_word(line, v).with_byte(b'\n'),

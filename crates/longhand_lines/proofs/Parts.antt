@@ -1,6 +1,7 @@
 -- A line parted into fields. Assumes nothing.
 use mathlib.Core.Path.{_≡_, sym, ap, _∙_}
-use mathlib.Core.List.{List}
+use mathlib.Core.Bool.{Bool, true, false}
+use mathlib.Core.List.{List, [], _∷_}
 use Prim.Native.Nat.{ℕ, zero, suc, _+_, _-_, _≤_, _<_}
 use native.Mathlib.Numerals.{add-one, sub-one}
 use native.Mathlib.Omega.{arith}
@@ -20,6 +21,15 @@ times-next b l i h = rw (drop-cons l i 0 h, add-one i)
 pub times-end : (b : ℕ) (l : List ℕ) (i : ℕ) → length l ≤ i → times b (drop i l) ≡ 0
 unfolding times
 times-end b l i h = rw (drop-of-length-le l h)
+
+pub times-most : (b : ℕ) (l : List ℕ) → times b l ≤ length l
+unfolding times
+times-most b [] = omega arith
+times-most b (a ∷ l) = go (eqb a b) (times-most b l)
+  where
+    go : (t : Bool) {n : ℕ} → n ≤ length l → bit t + n ≤ suc (length l)
+    go true h = omega arith
+    go false h = omega arith
 
 -- ---- what stands after the first field, as a part that goes on to the end; and a field more
 pub rest-none : (l : List ℕ) (n : ℕ) → n ≡ before 32 l → length l ≤ n → take (length l - n) (drop n l) ≡ otherFields l

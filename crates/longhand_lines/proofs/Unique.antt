@@ -5,4 +5,4 @@ use Rattle.lines.specs.Text.{shown}
 use Rattle.longhand_lines.proofs.longhand.longhand_line.Reads as longhand-line-reads
 
 pub longhand-line-unique : (κs : Lfts 1) → OneOutcome (longhand-line-reads.Post κs) (λ r e. shown r)
-longhand-line-unique κs x r s e f p q = settled itself (p .0) (q .0)
+longhand-line-unique κs x r s e f p q = settled itself (p .text) (q .text)

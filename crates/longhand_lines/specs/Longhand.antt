@@ -1,5 +1,5 @@
 -- The lines of the program `longhand`: a longhand record in hexadecimal, which is read, and settings, which are written as one.
-use Prim.Native.Nat.{ℕ, _%_}
+use Prim.Native.Nat.{ℕ, _+_, _-_, _%_, min}
 use mathlib.Core.Bool.{Bool, cond, _&&_, _||_}
 use mathlib.Core.List.{List, [], _∷_, _++_}
 use lib.Dec.{leb, eqb}
@@ -11,7 +11,7 @@ use Rattle.settings.specs.Check.{intOr}
 use Rattle.settings.specs.Answers.{Answer, checkAnswer, packAnswer}
 use Rattle.longhands.specs.declared.longhand.Longhand.{Longhand}
 use Rattle.longhands.specs.Longhand.{kind1Bytes, longhandAnswer, writeAnswer}
-use Rattle.lines.specs.Limits.{mostInput}
+use Rattle.lines.specs.Limits.{mostInput, mostPrinted}
 use Rattle.lines.specs.Text.{allDigits, decimal, signed, spaced, flagsText}
 use Rattle.longhand_lines.specs.Fields.{times, fieldAt, intOf, isGiven, isSetting, isFlag, flagOf}
 use Rattle.longhand_lines.specs.Hex.{bytesOf, hexDigits, hexText}
@@ -72,6 +72,10 @@ readText a =
     ++ cond (eqb (a .no) 0 || eqb (a .no) 16) (spaced (decimal (a .value .after))) []
     ++ cond (eqb (a .no) 0) (optsText (a .value .opts) ++ wordText (a .value .opts)) []
 
+-- its bytes, at most
+abbrev pub readMost : Answer Longhand → ℕ
+readMost a = cond (eqb (a .no) 0) 253 41
+
 -- ---- out: the record of settings, or why there is none
 unfoldable pub writtenText : Answer (List ℕ) → List ℕ
 writtenText a = decimal (a .no) ++ cond (eqb (a .no) 0) (spaced (hexText (a .value))) []
@@ -86,6 +90,10 @@ askedAnswer l = checkAnswer (askedSettings l) (askedSide l 0) (askedSide l 1)
 -- ---- the line; `-` for any other
 unfoldable pub answerText : List ℕ → List ℕ
 answerText l = cond (isRecord l) (readText (longhandAnswer (bytesOf l))) (cond (isAsked l) (checkedText (askedAnswer l)) (45 ∷ []))
+
+-- its bytes, at most, for a line of k: a newline after them has room too
+abbrev pub textMost : ℕ → ℕ
+textMost k = min 253 (mostPrinted (k + 1) - 1)
 
 abbrev pub longhandLine : List ℕ → List ℕ
 longhandLine l = answerText l ++ (10 ∷ [])

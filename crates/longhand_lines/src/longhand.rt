@@ -7,10 +7,10 @@ ghost use Prim.Native.Nat.{_+_, _≤_};
 ghost use lib.ListN.{length, replicate};
 ghost use Rattle.settings.specs.Answers.{number, checked};
 ghost use Rattle.longhands.specs.Longhand.{kind1Bytes, readAs, longhandAnswer, writeAnswer};
-ghost use Rattle.lines.specs.Text.{decimal, spaced, room, shown, Appended};
+ghost use Rattle.lines.specs.Text.{decimal, spaced, room, Appended, Printed};
 ghost use Rattle.longhand_lines.specs.Fields.{fieldAt, intOf, flagOf};
 ghost use Rattle.longhand_lines.specs.Hex.{bytesOf, hexText};
-ghost use Rattle.longhand_lines.specs.Longhand.{isRecord, areSizes, areNumbers, areFlags, isAsked, askedSide, askedSettings, optsText, packedWord, wordText, readText, writtenText, checkedText, askedAnswer, answerText, longhandLine};
+ghost use Rattle.longhand_lines.specs.Longhand.{isRecord, areSizes, areNumbers, areFlags, isAsked, askedSide, askedSettings, optsText, packedWord, wordText, readText, readMost, writtenText, checkedText, askedAnswer, answerText, textMost, longhandLine};
 use crate::fields::field_at;
 use crate::fields::flag_of;
 use crate::fields::int_of;
@@ -165,7 +165,7 @@ fn with_refused(text: Line, f: Refusal) -> Line
 
 fn with_read(text: Line, r: Read) -> Line
     requires { ⌜ text .len + 253 ≤ room ⌝ }
-    ensures { λ a. ⌜ Appended text a (readText (readAs r)) 253 ⌝ }
+    ensures { λ a. ⌜ Appended text a (readText (readAs r)) (readMost (readAs r)) ⌝ }
 {
     match r {
         Read::Record(h) => {
@@ -179,7 +179,7 @@ fn with_read(text: Line, r: Read) -> Line
 
 fn with_record(text: Line, line: &[u8]) -> Line
     requires { ⌜ (text .len + 253 ≤ room) × (isRecord (now line) ≡ true) ⌝ }
-    ensures { λ r. ⌜ Appended text r (readText (longhandAnswer (bytesOf (now (line .entry))))) 253 ⌝ }
+    ensures { λ r. ⌜ Appended text r (readText (longhandAnswer (bytesOf (now (line .entry))))) (readMost (longhandAnswer (bytesOf (now (line .entry))))) ⌝ }
 {
     let mut bytes = [0u8; MOST_INPUT / 2];
     spell(line, &mut bytes);
@@ -217,7 +217,7 @@ fn with_checked(text: Line, c: Checked) -> Line
 
 fn with_answer(text: Line, line: &[u8]) -> Line
     requires { ⌜ text .len + 253 ≤ room ⌝ }
-    ensures { λ r. ⌜ Appended text r (answerText (now (line .entry))) 253 ⌝ }
+    ensures { λ r. ⌜ Appended text r (answerText (now (line .entry))) (textMost (length (now (line .entry)))) ⌝ }
 {
     if is_record(line) {
         return with_record(text, line);
@@ -230,7 +230,7 @@ fn with_answer(text: Line, line: &[u8]) -> Line
 
 // The line that is printed for a line of the input.
 pub fn longhand_line(line: &[u8]) -> Line
-    ensures { λ r. ⌜ (shown r ≡ longhandLine (now (line .entry))) × (r .len ≤ room) ⌝ }
+    ensures { λ r. ⌜ Printed (length (now (line .entry))) r (longhandLine (now (line .entry))) ⌝ }
 {
     with_answer(Line::new(), line).with_byte(b'\n')
 }

@@ -82,13 +82,13 @@ frame-back l are w =
     (ap (λ (k : ℕ). take k l) end)
 
 -- what a record that is read has
-record Spelled (l : List ℕ) : Type 0 where
-  frame : Whole l
-  kind : kindOf l ≡ 1
-  long : lengthOf l ≡ 17
-  good : kind1Good (bodyOf l) ≡ true
+pub record Spelled (l : List ℕ) : Type 0 where
+  pub frame : Whole l
+  pub kind : kindOf l ≡ 1
+  pub long : lengthOf l ≡ 17
+  pub good : kind1Good (bodyOf l) ≡ true
 
-spelled : (l : List ℕ) → longhandNo l ≡ 0 → Spelled l
+pub spelled : (l : List ℕ) → longhandNo l ≡ 0 → Spelled l
 unfolding longhandNo
 spelled l e =
     let a = refuse (not (isKnown (kindOf l))) 16 in

@@ -39,14 +39,25 @@ returns c =
     let h = c .before .before .before .before .before .before in
     let n = c .before .before in
     let p = c .with-byte .ensures after c .before .with-word .ensures in
-    (p .text ∙ rw (empty (n .new .result) (n .new .ensures)) (ap (lineOf (h .before .before .args .line .now)) (sym (c .before .before .before .before .v .given .1) ∙ h .hex-word .ensures)), omega (arith, p .room, n .new .ensures))
+    let line = h .before .before .args .line .now in
+    let v = c .before .before .before .before .v .given in
+    let is = sym (v .1) ∙ h .hex-word .ensures in
+    record {
+      text = p .text ∙ rw (empty (n .new .result) (n .new .ensures)) (ap (lineOf line) is);
+      room = omega (arith, p .room, n .new .ensures);
+      most = omega (arith, p .room, n .new .ensures, word-length line (v .0 .0) is);
+    }
 
 returns-2 : tie.Need-returns-2
 returns-2 c =
     let h = c .before .before .before .before .before in
     let n = c .before .before in
     let p = c .with-byte3 .ensures after c .before .with-byte2 .ensures in
-    (p .text ∙ rw (empty (n .new2 .result) (n .new2 .ensures)) (ap (lineOf (h .before .before .args .line .now)) (sym (n .before .enum-told .given .1) ∙ h .hex-word .ensures)), omega (arith, p .room, n .new2 .ensures))
+    record {
+      text = p .text ∙ rw (empty (n .new2 .result) (n .new2 .ensures)) (ap (lineOf (h .before .before .args .line .now)) (sym (n .before .enum-told .given .1) ∙ h .hex-word .ensures));
+      room = omega (arith, p .room, n .new2 .ensures);
+      most = omega (arith, p .room, n .new2 .ensures);
+    }
 
 pub line-out-spec : {M : Type 1} → statement M
 line-out-spec =

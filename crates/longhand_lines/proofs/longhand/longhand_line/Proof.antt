@@ -19,7 +19,11 @@ returns : tie.Need-returns
 returns c =
     let n = c .before .before in
     let p = c .with-byte .ensures after c .before .with-answer .ensures in
-    (p .text ∙ rw (empty (n .new .result) (n .new .ensures)), omega (arith, p .room, n .new .ensures))
+    record {
+      text = p .text ∙ rw (empty (n .new .result) (n .new .ensures));
+      room = omega (arith, p .room, n .new .ensures);
+      most = omega (arith, p .room, n .new .ensures);
+    }
 
 pub longhand-line-spec : {M : Type 1} → statement M
 longhand-line-spec =

@@ -1,11 +1,11 @@
 -- `with_read` meets its contract. Assumes nothing.
-use mathlib.Core.Path.{sym, ap, _∙_}
+use mathlib.Core.Path.{sym, ap}
 use native.Mathlib.Omega.{arith}
-use Rattle.longhands.specs.declared.longhand.Read.{Read}
+use Rattle.longhands.specs.declared.longhand.Read.the-variants.{Refused}
 use Rattle.longhands.specs.Longhand.{readAs}
-use Rattle.longhand_lines.specs.Longhand.{readText}
+use Rattle.longhand_lines.specs.Longhand.{readMost}
 use Rattle.lines.proofs.Lines.{_after_, said, wider}
-use Rattle.longhand_lines.proofs.Answered.{read-record, read-unknown, read-refused}
+use Rattle.longhand_lines.proofs.Answered.{read-alike, read-record, read-unknown, read-refused, refused-few}
 use borrow.Author.Needs.{needs}
 use Rattle.longhand_lines.proofs.longhand.with_read.Statement.{statement}
 use Rattle.longhand_lines.proofs.longhand.with_read.Tie as tie
@@ -37,17 +37,17 @@ with-refused-requires c κs = search needs
 returns : tie.Need-returns
 returns c =
     let r = c .before .before .before .before .r .given in
-    said (read-record (r .0 .0) ∙ ap (λ (x : Read). readText (readAs x)) (sym (r .1))) (c .with-spelled .ensures after c .before .with-place .ensures)
+    read-alike (ap readAs (sym (r .1))) (said (read-record (r .0 .0)) (c .with-spelled .ensures after c .before .with-place .ensures))
 
 returns-2 : tie.Need-returns-2
 returns-2 c =
     let r = c .before .before .r2 .given in
-    said (read-unknown (r .0 .0) ∙ ap (λ (x : Read). readText (readAs x)) (sym (r .1))) (wider 253 (omega arith) (c .with-place2 .ensures))
+    read-alike (ap readAs (sym (r .1))) (said (read-unknown (r .0 .0)) (c .with-place2 .ensures))
 
 returns-3 : tie.Need-returns-3
 returns-3 c =
     let r = c .before .before .r3 .given in
-    said (read-refused (r .0 .0) ∙ ap (λ (x : Read). readText (readAs x)) (sym (r .1))) (wider 253 (omega arith) (c .with-refused .ensures))
+    read-alike (ap readAs (sym (r .1))) (said (read-refused (r .0 .0)) (wider (readMost (readAs (Refused (r .0 .0)))) (omega (arith, refused-few (r .0 .0))) (c .with-refused .ensures)))
 
 pub with-read-spec : {M : Type 1} → statement M
 with-read-spec =
