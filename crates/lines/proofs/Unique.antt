@@ -8,9 +8,7 @@ use Rattle.lines.proofs.text.hex_word.Reads as hex-word-reads
 use Rattle.lines.proofs.text.Line.new.Reads as new-reads
 use Rattle.lines.proofs.text.line_out.Reads as line-out-reads
 use Rattle.lines.proofs.parting.bytes_before.Reads as bytes-before-reads
-use Rattle.lines.proofs.parting.line_end.Reads as line-end-reads
 use Rattle.lines.proofs.Lines.{empty}
-use Rattle.lines.proofs.Parted.{end-known}
 
 pub all-digits-unique : (κs : Lfts 1) → OneOutcome (all-digits-reads.Post κs) (λ r e. r)
 all-digits-unique κs x r s e f p q = settled itself p q
@@ -26,6 +24,3 @@ line-out-unique κs x r s e f p q = settled itself (p .text) (q .text)
 
 pub bytes-before-unique : (κs : Lfts 1) → OneOutcome (bytes-before-reads.Post κs) (λ r e. r)
 bytes-before-unique κs x r s e f p q = settled itself (p .0) (q .0)
-
-pub line-end-unique : (κs : Lfts 1) → OneOutcome (line-end-reads.Post κs) (λ r e. r)
-line-end-unique κs x r s e f p q = end-known p q

@@ -1,8 +1,8 @@
-// An input parted into lines: first where a byte stands, then where a line ends.
+// Where a line of an input ends, or a field of a line: at the first byte of one kind.
 ghost use mathlib.Core.Path.{_≡_};
-ghost use Prim.Native.Nat.{_≤_, min};
+ghost use Prim.Native.Nat.{_≤_};
 ghost use lib.ListN.{length};
-ghost use Rattle.lines.specs.Parting.{before, LineEnd};
+ghost use Rattle.lines.specs.Parting.{before};
 
 // How many bytes stand before the first b.
 pub fn bytes_before(line: &[u8], b: u8) -> usize
@@ -16,14 +16,4 @@ pub fn bytes_before(line: &[u8], b: u8) -> usize
         at += 1;
     }
     at
-}
-
-// Where the line that starts at `from` ends: at the next newline, or at the end of the input.
-pub fn line_end(input: &[u8], from: usize) -> usize
-    ensures { λ r. ⌜ LineEnd (now (input .entry)) (min from (length (now (input .entry)))) r ⌝ }
-{
-    if input.len() <= from {
-        return input.len();
-    }
-    from + bytes_before(&input[from..], b'\n')
 }
