@@ -8,7 +8,7 @@ use lib.Dec.{eqb, leb, ltb}
 use lib.ListN.{length}
 use borrow.Author.Tests.{eqb-false, le-leb, lt-ltb, le-ltb}
 use Rattle.settings.specs.declared.refusal.Refusal.{Refusal}
-use Rattle.settings.specs.Answers.{Answer, answer, complete, number, written}
+use Rattle.settings.specs.Answers.{Answer, answer, ifDone, number, written}
 use Rattle.settings.proofs.Known.{number-some, number-of, value-given}
 use Rattle.settings.proofs.Tests.{and-no}
 use Rattle.answers.specs.Lent.{lowest, tells}
@@ -37,7 +37,7 @@ lowest-short {m} f len need e h short = rw (← e, not-low m h, lt-ltb len need 
 pub lowest-other : {m : ℕ} (f : Refusal) (len need : ℕ) → m ≡ number f → 15 ≤ m → need ≤ len → m ≡ lowest (number f) (ltb len need)
 lowest-other {m} f len need e h enough = rw (← e, not-low m h, le-ltb len need enough)
 
-kept : {A : Type 0} (n : ℕ) (a lent : List A) → eqb n 0 ≡ false → answer n lent ≡ complete n a lent
+kept : {A : Type 0} (n : ℕ) (a lent : List A) → eqb n 0 ≡ false → answer n lent ≡ ifDone n a lent
 kept n a lent h = rw h
 
 -- r is the number where the call that was made refuses by f, and k numbers would have been told
@@ -48,7 +48,7 @@ tell-refused f values lent e low long =
     ∙ ap (λ (x : ℕ). tells x values lent) e
 
 -- x is what is left where it gives a, and v are the numbers of a
-pub tell-given : {A B : Type 0} {n : ℕ} {a : B} {v : List A} {x : Answer (List A)} (values : B → List A) (lent : List A) (b none : B) → answer 0 a ≡ complete n b none → v ≡ values a → x ≡ tells 0 v lent → x ≡ tells n (values b) lent
+pub tell-given : {A B : Type 0} {n : ℕ} {a : B} {v : List A} {x : Answer (List A)} (values : B → List A) (lent : List A) (b none : B) → answer 0 a ≡ ifDone n b none → v ≡ values a → x ≡ tells 0 v lent → x ≡ tells n (values b) lent
 tell-given {A} values lent b none e same put =
     put
     ∙ ap (λ (l : List A). tells 0 l lent) (same ∙ ap values (value-given b none e))

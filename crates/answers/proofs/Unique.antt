@@ -1,8 +1,8 @@
--- One outcome: no second answer and no other lent slice meets the contract of a public call (`OneOutcome`), by one law (`settled`). What is seen of a call that puts an answer is its number with the slice. Assumes nothing.
+-- One outcome: no second answer and no other lent slice meets the contract of a public call (`OneOutcome`), by one law (`determined`). What is seen of a call that puts an answer is its number with the slice. Assumes nothing.
 use contract.Lifetimes.{Lfts}
 use denote.Ref.{now}
 use Rattle.settings.specs.Answers.{answer}
-use Rattle.settings.proofs.Outcome.{OneOutcome, settled, itself}
+use Rattle.settings.proofs.Outcome.{OneOutcome, determined, itself}
 use Rattle.answers.proofs.given.settings_of.Reads as settings-of-reads
 use Rattle.answers.proofs.record.record_of.Reads as record-of-reads
 use Rattle.answers.proofs.record.numbers_of.Reads as numbers-of-reads
@@ -16,34 +16,34 @@ use Rattle.answers.proofs.room.put_sizes.Reads as put-sizes-reads
 use Rattle.answers.proofs.room.put_columns.Reads as put-columns-reads
 
 pub settings-of-unique : (κs : Lfts 0) → OneOutcome (settings-of-reads.Post κs) (λ r e. r)
-settings-of-unique κs x r s e f p q = settled itself p q
+settings-of-unique κs x r s e f p q = determined itself p q
 
 pub record-of-unique : (κs : Lfts 1) → OneOutcome (record-of-reads.Post κs) (λ r e. r)
-record-of-unique κs x r s e f p q = settled itself p q
+record-of-unique κs x r s e f p q = determined itself p q
 
 pub numbers-of-unique : (κs : Lfts 0) → OneOutcome (numbers-of-reads.Post κs) (λ r e. r)
-numbers-of-unique κs x r s e f p q = settled itself p q
+numbers-of-unique κs x r s e f p q = determined itself p q
 
 pub flag-unique : (κs : Lfts 0) → OneOutcome (flag-reads.Post κs) (λ r e. r)
-flag-unique κs x r s e f p q = settled itself p q
+flag-unique κs x r s e f p q = determined itself p q
 
 pub told-numbers-unique : (κs : Lfts 0) → OneOutcome (told-numbers-reads.Post κs) (λ r e. r)
-told-numbers-unique κs x r s e f p q = settled itself p q
+told-numbers-unique κs x r s e f p q = determined itself p q
 
 pub number-unique : (κs : Lfts 0) → OneOutcome (number-reads.Post κs) (λ r e. r)
-number-unique κs x r s e f p q = settled itself p q
+number-unique κs x r s e f p q = determined itself p q
 
 pub lowest-unique : (κs : Lfts 0) → OneOutcome (lowest-reads.Post κs) (λ r e. r)
-lowest-unique κs x r s e f p q = settled itself p q
+lowest-unique κs x r s e f p q = determined itself p q
 
 pub put-numbers-unique : (κs : Lfts 2) → OneOutcome (put-numbers-reads.Post κs) (λ r e. answer r (now (e .0)))
-put-numbers-unique κs x r s e f p q = settled itself p q
+put-numbers-unique κs x r s e f p q = determined itself p q
 
 pub put-word-unique : (κs : Lfts 1) → OneOutcome (put-word-reads.Post κs) (λ r e. answer r (now (e .0)))
-put-word-unique κs x r s e f p q = settled itself p q
+put-word-unique κs x r s e f p q = determined itself p q
 
 pub put-sizes-unique : (κs : Lfts 2) → OneOutcome (put-sizes-reads.Post κs) (λ r e. answer r (now (e .0)))
-put-sizes-unique κs x r s e f p q = settled itself p q
+put-sizes-unique κs x r s e f p q = determined itself p q
 
 pub put-columns-unique : (κs : Lfts 4) → OneOutcome (put-columns-reads.Post κs) (λ r e. answer r (now (e .0)))
-put-columns-unique κs x r s e f p q = settled itself p q
+put-columns-unique κs x r s e f p q = determined itself p q

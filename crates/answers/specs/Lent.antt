@@ -4,7 +4,7 @@ use mathlib.Core.List.{List}
 use Prim.Native.Nat.{ℕ}
 use lib.Dec.{leb, ltb}
 use lib.ListN.{length}
-use Rattle.settings.specs.Answers.{Answer, complete, written}
+use Rattle.settings.specs.Answers.{Answer, ifDone, written}
 
 -- n, unless the slice is too short for the answer, document 02's 15, and no lower number applies
 abbrev pub lowest : ℕ → Bool → ℕ
@@ -12,4 +12,4 @@ lowest n short = cond (leb 1 n && ltb n 15) n (cond short 15 n)
 
 -- a call whose number but for that is n, and that tells values
 abbrev pub tells : {A : Type 0} → ℕ → List A → List A → Answer (List A)
-tells n values lent = complete (lowest n (ltb (length lent) (length values))) (written values lent) lent
+tells n values lent = ifDone (lowest n (ltb (length lent) (length values))) (written values lent) lent

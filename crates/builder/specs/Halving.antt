@@ -54,11 +54,11 @@ verticalLine f whole n h s base sp y =
     cond (isEdge f y h) (meansOf n (fetch s at n) (fetch s (at + sp) n)) (innerLine f whole n s at sp)
 
 -- ---- the rows of target level t, that lie `step` apart
--- "Vertical, at target row y, source row 2y, over 2 * width bytes". `see d` is what is read: the canvas d, or the source plane
+-- "Vertical, at target row y, source row 2y, over 2 * width bytes". `seen d` is the list that is read: the canvas d itself, or the source plane
 unfoldable pub verticalRows : ReduceFilter → (List ℕ → List ℕ) → ℕ → ℕ → Region → ℕ → List ℕ → List ℕ
-verticalRows f see base sp t step c =
+verticalRows f seen base sp t step c =
     let n = 2 * t .width in
-    steps (λ y d. put d (t .offset + y * step) (verticalLine f (wholeOf f n) n (t .height) (see d) base sp y)) (t .height) c
+    steps (λ y d. put d (t .offset + y * step) (verticalLine f (wholeOf f n) n (t .height) (seen d) base sp y)) (t .height) c
 
 -- the row at `at`, halved in its place: "Bytes from width to 2 * width keep the vertical values"
 unfoldable pub halveRun : ReduceFilter → ℕ → ℕ → List ℕ → List ℕ

@@ -1,4 +1,4 @@
--- What the inner calls need of the slices that they are lent. `layoutNo`, `buildNo` and the laws of proofs/ give it to each.
+-- Inner: what the inner calls need of the slices that they are lent. Document 01 has none of it; `layoutNo`, `buildNo` and the laws of proofs/ give it to each.
 use Prim.Native.Nat.{ℕ, _+_, _*_, _≤_}
 use Rattle.settings.specs.Limits.{mostSide, mostPitch}
 use Rattle.layouts.specs.declared.layout.Region.{Region}

@@ -255,17 +255,17 @@ impl Interp {
         frame: &mut [u8],
         spill: &mut [u8],
         scratch: &mut [u8],
-        a: usize,
-        b: usize,
-        d: usize,
+        horizontal: usize,
+        vertical: usize,
+        diagonal: usize,
     )
-        requires { ⌜ (Halves a b d) × (Planes (d + 1) (length (now frame)) (length (now scratch)) self) × (16 ≤ length (now spill)) ⌝ }
-        ensures { λ r. ⌜ now (frame .exit) ++ now (spill .exit) ≡ meanPlanes self a b d (now (frame .entry) ++ now (spill .entry)) ⌝ }
+        requires { ⌜ (Halves horizontal vertical diagonal) × (Planes (diagonal + 1) (length (now frame)) (length (now scratch)) self) × (16 ≤ length (now spill)) ⌝ }
+        ensures { λ r. ⌜ now (frame .exit) ++ now (spill .exit) ≡ meanPlanes self horizontal vertical diagonal (now (frame .entry) ++ now (spill .entry)) ⌝ }
     {
-        let horizontal = self.plane(a);
-        self.pair(frame, spill, scratch, horizontal, 0, 1);
-        self.pair_under_row(frame, spill, scratch, b, self.pitch, 0);
-        self.pair_under_row(frame, spill, scratch, d, self.pitch + 1, 1);
+        let target = self.plane(horizontal);
+        self.pair(frame, spill, scratch, target, 0, 1);
+        self.pair_under_row(frame, spill, scratch, vertical, self.pitch, 0);
+        self.pair_under_row(frame, spill, scratch, diagonal, self.pitch + 1, 1);
     }
 
     fn kernel_planes(
@@ -273,38 +273,52 @@ impl Interp {
         kernel: HalfPel,
         frame: &mut [u8],
         scratch: &mut [u8],
-        a: usize,
-        b: usize,
-        d: usize,
+        horizontal: usize,
+        vertical: usize,
+        diagonal: usize,
     )
-        requires { ⌜ (Halves a b d) × (Planes (d + 1) (length (now frame)) (length (now scratch)) self) ⌝ }
-        ensures { λ r. ⌜ now (frame .exit) ≡ kernelPlanes kernel self a b d (now (frame .entry)) ⌝ }
+        requires { ⌜ (Halves horizontal vertical diagonal) × (Planes (diagonal + 1) (length (now frame)) (length (now scratch)) self) ⌝ }
+        ensures { λ r. ⌜ now (frame .exit) ≡ kernelPlanes kernel self horizontal vertical diagonal (now (frame .entry)) ⌝ }
     {
-        let horizontal = self.plane(a);
-        let vertical = self.plane(b);
-        let diagonal = self.plane(d);
-        self.horizontal(kernel, frame, scratch, horizontal, 0);
-        self.vertical(kernel, frame, scratch, vertical, 0);
-        self.horizontal(kernel, frame, scratch, diagonal, vertical);
+        let across = self.plane(horizontal);
+        let below = self.plane(vertical);
+        let both = self.plane(diagonal);
+        self.horizontal(kernel, frame, scratch, across, 0);
+        self.vertical(kernel, frame, scratch, below, 0);
+        self.horizontal(kernel, frame, scratch, both, below);
     }
 
-    // The planes at half places: horizontal a, vertical b, diagonal d.
+    // The planes at half places, by their numbers.
     fn half_planes(
         self,
         frame: &mut [u8],
         spill: &mut [u8],
         scratch: &mut [u8],
         upscale: Upscale,
-        a: usize,
-        b: usize,
-        d: usize,
+        horizontal: usize,
+        vertical: usize,
+        diagonal: usize,
     )
-        requires { ⌜ (Halves a b d) × (Planes (d + 1) (length (now frame)) (length (now scratch)) self) × (16 ≤ length (now spill)) ⌝ }
-        ensures { λ r. ⌜ now (frame .exit) ++ now (spill .exit) ≡ halfPlanes upscale self a b d (now (frame .entry) ++ now (spill .entry)) ⌝ }
+        requires { ⌜ (Halves horizontal vertical diagonal) × (Planes (diagonal + 1) (length (now frame)) (length (now scratch)) self) × (16 ≤ length (now spill)) ⌝ }
+        ensures { λ r. ⌜ now (frame .exit) ++ now (spill .exit) ≡ halfPlanes upscale self horizontal vertical diagonal (now (frame .entry) ++ now (spill .entry)) ⌝ }
     {
         match upscale {
-            Upscale::Means => self.mean_planes(frame, spill, scratch, a, b, d),
-            Upscale::Kernel(kernel) => self.kernel_planes(kernel, frame, scratch, a, b, d),
+            Upscale::Means => self.mean_planes(
+                frame,
+                spill,
+                scratch,
+                horizontal,
+                vertical,
+                diagonal,
+            ),
+            Upscale::Kernel(kernel) => self.kernel_planes(
+                kernel,
+                frame,
+                scratch,
+                horizontal,
+                vertical,
+                diagonal,
+            ),
         }
     }
 }
@@ -397,18 +411,18 @@ pub const PAIRS: [Pair; 12] = [
     },
 ];
 
-fn quarter(frame: &mut [u8], spill: &mut [u8], scratch: &mut [u8], i: Interp, q: Pair)
-    requires { ⌜ (Quarter q) × (Planes 16 (length (now frame)) (length (now scratch)) i) × (16 ≤ length (now spill)) ⌝ }
-    ensures { λ r. ⌜ now (frame .exit) ++ now (spill .exit) ≡ quarter i q (now (frame .entry) ++ now (spill .entry)) ⌝ }
+fn quarter(frame: &mut [u8], spill: &mut [u8], scratch: &mut [u8], i: Interp, pair: Pair)
+    requires { ⌜ (Quarter pair) × (Planes 16 (length (now frame)) (length (now scratch)) i) × (16 ≤ length (now spill)) ⌝ }
+    ensures { λ r. ⌜ now (frame .exit) ++ now (spill .exit) ≡ quarter i pair (now (frame .entry) ++ now (spill .entry)) ⌝ }
 {
     let part = Interp {
         pitch: i.pitch,
-        width: i.width - q.across,
-        height: i.height - q.below,
+        width: i.width - pair.across,
+        height: i.height - pair.below,
     };
-    let target = i.plane(q.target);
-    let left = i.plane(q.left) + q.across + q.below * i.pitch;
-    let right = i.plane(q.right);
+    let target = i.plane(pair.target);
+    let left = i.plane(pair.left) + pair.across + pair.below * i.pitch;
+    let right = i.plane(pair.right);
     part.pair(frame, spill, scratch, target, left, right);
 }
 
@@ -417,8 +431,8 @@ fn quarters(frame: &mut [u8], spill: &mut [u8], scratch: &mut [u8], i: Interp)
     ensures { λ r. ⌜ now (frame .exit) ++ now (spill .exit) ≡ foldPairs (quarter i) pairs (now (frame .entry) ++ now (spill .entry)) ⌝ }
 {
     for k in 0..12 {
-        let q = PAIRS[k];
-        quarter(frame, spill, scratch, i, q);
+        let pair = PAIRS[k];
+        quarter(frame, spill, scratch, i, pair);
     }
 }
 

@@ -12,7 +12,7 @@ use Rattle.filters.proofs.ByHand.{ByHand as Rows, by-hand as rows-by-hand}
 use Rattle.layouts.specs.declared.layout.Layout.{Layout}
 use Rattle.layouts.specs.Layout.{offsetAt}
 use Rattle.layouts.specs.Margins.{cubicFits, fusedAt}
-use Rattle.layouts.specs.Numbers.{layoutNo, frameNo}
+use Rattle.layouts.specs.Refusals.{layoutNo, frameNo}
 use Rattle.layouts.specs.Answers.{endAnswer}
 
 -- a plane of w by h at pel 2, with the other settings left out

@@ -1,6 +1,6 @@
 -- Demand 3 about the product's own calls. In the user's words:
 --     "Reading any word names one build exactly if some accepted record packs to it and all that do leave equal bytes, given the same plane, source pitch, layout and starting frame; it then tells the width, height, pel, levels, gpu, full, rc and lean they all have, and their down and up where document 01 says these matter. It answers "not a code" exactly if none packs to it. It answers that the halving or the upscale filter isn't told exactly if two such records, alike but for that one setting, leave different bytes for some plane, source pitch and layout, the same for both, in a frame of zeros; if both hold, halving is named."
--- `Exact` of specs/Demands.antt says it sentence by sentence, and `demand-3` below that it holds of every answer that meets the contract of `read_word`.
+-- `Demand3` of specs/Demands.antt says it sentence by sentence, and `demand-3` below that it holds of every answer that meets the contract of `read_word`.
 -- First the contracts of the five calls, each beside `Post`, what the checker itself reads of the call's `ensures`; then from the definitions to these contracts; then `demand-3`; last `alike-words`, that words which prepare alike leave equal bytes. Assumes nothing.
 use mathlib.Core.Path.{_≡_, sym, ap, _∙_, subst}
 use mathlib.Core.List.{List}
@@ -15,7 +15,7 @@ use contract.Lifetimes.{Lfts}
 use denote.Ref.{now}
 use Rattle.settings.specs.declared.super_opts.SuperOpts.{SuperOpts}
 use Rattle.settings.specs.Numbers.{refuse, _then_}
-use Rattle.settings.specs.Answers.{Answer, answer, checked, checkAnswer, packed, packAnswer, told, readAnswer}
+use Rattle.settings.specs.Answers.{Answer, answer, tested, checked, checkAnswer, packed, packAnswer, told, readAnswer}
 use Rattle.settings.specs.Reading.{Packs, alike}
 use Rattle.settings.proofs.Outcome.{Contract, Promises}
 use Rattle.settings.proofs.Refusals.{then-first, then-rest}
@@ -27,10 +27,10 @@ use Rattle.settings.proofs.word.read_word.Reads as read-word-reads
 use Rattle.settings.proofs.word.prepare_alike.Reads as prepare-alike-reads
 use Rattle.layouts.specs.declared.layout.Layout.{Layout}
 use Rattle.layouts.specs.Layout.{widthAt, writtenEnd, spillNeed, scratchNeed}
-use Rattle.layouts.specs.Numbers.{badPitch, layoutNo, sourceNeed, lentNo, buildNo}
-use Rattle.planes.specs.Answers.{planeNo}
+use Rattle.layouts.specs.Refusals.{badPitch, layoutNo, sourceNeed, lentNo, buildNo}
+use Rattle.planes.specs.Build.{planeNo, BuildLeaves}
 use Rattle.planes.proofs.build.build_plane.Reads as build-plane-reads
-use Rattle.demands.specs.Demands.{Given, layoutOf, SameBuild, Differ, withDown, withUp, HalvingDiffers, UpscaleDiffers, Exact, PacksTo, BuildPlane, Finished, leaves, Leaves}
+use Rattle.demands.specs.Demands.{Inputs, withLayout, SameBuild, Differ, withDown, withUp, HalvingDiffers, UpscaleDiffers, Demand3, PacksTo, CallLeaves, leaves, Leaves}
 use Rattle.demands.proofs.Alike.{alike-build}
 use Rattle.demands.proofs.Demanded.{then-none, refuse-none, reads-met}
 
@@ -51,7 +51,7 @@ pub prepare-alike-contract : (κs : Lfts 0) → Contract (prepare-alike-reads.Po
 prepare-alike-contract κs x b e = itself
 
 -- of layout, source, source pitch, frame, spill and scratch
-pub build-plane-contract : (κs : Lfts 4) → Contract (build-plane-reads.Post κs) (λ x t e. BuildPlane (x .1 .1 .1 .0) (now (x .1 .1 .1 .1 .0)) (x .1 .1 .1 .1 .1 .0) (now (x .0)) (now (x .1 .0)) (now (x .1 .1 .0)) t (now (e .0)) (now (e .1 .0)) (now (e .1 .1 .0)))
+pub build-plane-contract : (κs : Lfts 4) → Contract (build-plane-reads.Post κs) (λ x t e. BuildLeaves (x .1 .1 .1 .0) (now (x .1 .1 .1 .1 .0)) (x .1 .1 .1 .1 .1 .0) (now (x .0)) (now (x .1 .0)) (now (x .1 .1 .0)) (tested t) (now (e .0)) (now (e .1 .0)) (now (e .1 .1 .0)))
 build-plane-contract κs x t e = itself
 
 -- ---- from the definitions to the calls
@@ -75,23 +75,23 @@ with-needs q n sp len spill scratch e =
     let lent = lentNo q n sp len spill scratch in
     then-none before (lentNo q n sp len (spillNeed q) (scratchNeed q)) (then-first before lent e) (lent-needs q n sp len spill scratch (then-rest before lent e))
 
-module _ (r : SuperOpts) (g : Given) (m : List ℕ) where
+module _ (r : SuperOpts) (g : Inputs) (m : List ℕ) where
   abbrev q : Layout
-  q = layoutOf r g
+  q = withLayout r g
 
-  leaves-by : Finished r g m → Leaves r g m
+  leaves-by : CallLeaves r g m → Leaves r g m
   leaves-by f =
-      let n = planeNo q (g .src) (g .sp) (g .frame) (f .spill) (f .scratch) in
+      let n = planeNo q (g .plane) (g .«src_pitch») (g .frame) (f .spill) (f .scratch) in
       let none : n ≡ 0 = sym (ap (λ (a : Answer (List ℕ)). a .no) (f .call .0)) in (
-        with-needs q (length (g .src)) (g .sp) (length (g .frame)) (length (f .spill)) (length (f .scratch)) none,
+        with-needs q (length (g .plane)) (g .«src_pitch») (length (g .frame)) (length (f .spill)) (length (f .scratch)) none,
         ap (λ (a : Answer (List ℕ)). a .value) (f .call .0 ∙ sym (given n (leaves r g) (g .frame) none)),
       )
 
-  finished-by : Leaves r g m → Finished r g m
+  finished-by : Leaves r g m → CallLeaves r g m
   finished-by l =
       let spill = replicate {A = ℕ} (spillNeed q) 0 in
       let scratch = replicate {A = ℕ} (scratchNeed q) 0 in
-      let n = planeNo q (g .src) (g .sp) (g .frame) spill scratch in
+      let n = planeNo q (g .plane) (g .«src_pitch») (g .frame) spill scratch in
       let none : n ≡ 0 = rw (length-replicate {A = ℕ} (spillNeed q) 0, length-replicate {A = ℕ} (scratchNeed q) 0) (l .0) in
       record {
         spill = spill;
@@ -102,10 +102,10 @@ module _ (r : SuperOpts) (g : Given) (m : List ℕ) where
       }
 
 -- from one account of the records behind a word, and of what builds leave, to another
-same-by : {L M : SuperOpts → Given → List ℕ → Type 0} → ((r : SuperOpts) (g : Given) (m : List ℕ) → L r g m → M r g m) → ((r : SuperOpts) (g : Given) (m : List ℕ) → M r g m → L r g m) → (r s : SuperOpts) → SameBuild M r s → SameBuild L r s
+same-by : {L M : SuperOpts → Inputs → List ℕ → Type 0} → ((r : SuperOpts) (g : Inputs) (m : List ℕ) → L r g m → M r g m) → ((r : SuperOpts) (g : Inputs) (m : List ℕ) → M r g m → L r g m) → (r s : SuperOpts) → SameBuild M r s → SameBuild L r s
 same-by to from r s h g m x y p = from s g m (h g m x y (to r g m p))
 
-module _ {B C : SuperOpts → Type 0} {L M : SuperOpts → Given → List ℕ → Type 0} (b : (r : SuperOpts) → B r → C r) (l : (r : SuperOpts) (g : Given) (m : List ℕ) → L r g m → M r g m) where
+module _ {B C : SuperOpts → Type 0} {L M : SuperOpts → Inputs → List ℕ → Type 0} (b : (r : SuperOpts) → B r → C r) (l : (r : SuperOpts) (g : Inputs) (m : List ℕ) → L r g m → M r g m) where
   differ-by : (r s : SuperOpts) → Differ L r s → Differ M r s
   differ-by r s d =
       record {
@@ -125,7 +125,7 @@ module _ {B C : SuperOpts → Type 0} {L M : SuperOpts → Given → List ℕ �
   upscale-by : UpscaleDiffers B L → UpscaleDiffers C M
   upscale-by t = let s = withUp (t .0) (t .1) in (t .0, t .1, b (t .0) (t .2), b s (t .3), differ-by (t .0) s (t .4))
 
-by-calls : (v : ℕ) → Exact (PacksTo v) Finished (readAnswer v)
+by-calls : (v : ℕ) → Demand3 (PacksTo v) CallLeaves (readAnswer v)
 by-calls v =
     let d = reads-met v in
     let to : (r : SuperOpts) → Packs v r → PacksTo v r = λ r. packs-to v r .0 in
@@ -135,7 +135,7 @@ by-calls v =
         λ e. let t = d .one .0 e in ((t .0 .0, to (t .0 .0) (t .0 .1)), λ r s p q. same-by leaves-by finished-by r s (t .1 r s (from r p) (from s q))),
         λ t. d .one .1 ((t .0 .0, from (t .0 .0) (t .0 .1)), λ r s p q. same-by finished-by leaves-by r s (t .1 r s (to r p) (to s q))),
       );
-      tells = λ e r p. d .tells e r (from r p);
+      described = λ e r p. d .described e r (from r p);
       none = (λ e r p. d .none .0 e r (from r p), λ h. d .none .1 (λ r p. h r (to r p)));
       halving = (λ e. halving-by to finished-by (d .halving .0 e), λ t. d .halving .1 (halving-by from leaves-by t));
       upscale = (
@@ -146,10 +146,10 @@ by-calls v =
     }
 
 -- ---- demand 3: x .0 is the word that is read, t the answer
-pub demand-3 : (κs : Lfts 0) → Promises (read-word-reads.Post κs) (λ x t e. Exact (PacksTo (x .0)) Finished (told t))
-demand-3 κs x t e p = subst (Exact (PacksTo (x .0)) Finished) (sym (read-word-contract κs x t e .0 p)) (by-calls (x .0))
+pub demand-3 : (κs : Lfts 0) → Promises (read-word-reads.Post κs) (λ x t e. Demand3 (PacksTo (x .0)) CallLeaves (told t))
+demand-3 κs x t e p = subst (Demand3 (PacksTo (x .0)) CallLeaves) (sym (read-word-contract κs x t e .0 p)) (by-calls (x .0))
 
 -- ---- comparing: x .0 and x .1 .0 are the words that are compared, b the answer
-pub alike-words : (κs : Lfts 0) → Promises (prepare-alike-reads.Post κs) (λ x b e. b ≡ true → (r s : SuperOpts) → PacksTo (x .0) r → PacksTo (x .1 .0) s → SameBuild Finished r s)
+pub alike-words : (κs : Lfts 0) → Promises (prepare-alike-reads.Post κs) (λ x b e. b ≡ true → (r s : SuperOpts) → PacksTo (x .0) r → PacksTo (x .1 .0) s → SameBuild CallLeaves r s)
 alike-words κs x b e p is r s behind-r behind-s =
     same-by leaves-by finished-by r s (alike-build (x .0) (x .1 .0) (sym (prepare-alike-contract κs x b e .0 p) ∙ is) r s (packs-to (x .0) r .1 behind-r) (packs-to (x .1 .0) s .1 behind-s))

@@ -1,4 +1,4 @@
--- Demand 3 over the definitions, byte for byte (`Exact` of specs/Demands.antt). First that the plane of proofs/Witness.antt is built, and that records with the word of an open filter differ on it; then from reading's tests to the demand; last `reads-met`. proofs/Demand.antt carries it to the calls. Assumes nothing.
+-- Demand 3 over the definitions, byte for byte (`Demand3` of specs/Demands.antt). First that the plane of proofs/Witness.antt is built, and that records with the word of an open filter differ on it; then from reading's tests to the demand; last `reads-met`. proofs/Demand.antt carries it to the calls. Assumes nothing.
 use mathlib.Core.Path.{_≡_, refl, sym, ap, _∙_}
 use mathlib.Core.List.{List}
 use mathlib.Core.Bool.{Bool, true, false, cond, not, _&&_, _||_}
@@ -28,12 +28,12 @@ use Rattle.filters.specs.declared.half_pel.Upscale.the-variants.{Means, Kernel}
 use Rattle.filters.specs.Halve.{chosen}
 use Rattle.filters.specs.Refine.{upscale}
 use Rattle.layouts.specs.Layout.{widthAt, heightAt, offsetAt, writtenEnd, spillNeed, scratchNeed}
-use Rattle.layouts.specs.Numbers.{badPitch, leastPitch, layoutNo, sourceNeed, lentNo, buildNo}
+use Rattle.layouts.specs.Refusals.{badPitch, leastPitch, layoutNo, sourceNeed, lentNo, buildNo}
 use Rattle.layouts.proofs.Loops.{row-in}
 use Rattle.layouts.proofs.Stored.{pel-more}
 use Rattle.builder.specs.Refining.{planeAt}
 use Rattle.planes.specs.Build.{planesOf}
-use Rattle.demands.specs.Demands.{SameBuild, Differ, withDown, withUp, HalvingDiffers, UpscaleDiffers, Exact, Builds, leaves, Leaves}
+use Rattle.demands.specs.Demands.{SameBuild, Differ, withDown, withUp, HalvingDiffers, UpscaleDiffers, Demand3, Builds, leaves, Leaves}
 use Rattle.demands.proofs.Same.{offset-same, down-same, up-same, one-there}
 use Rattle.demands.proofs.Witness.{Placed, sizes, luma, flat, w-is, h-is, unwritten, written, last-means, last-kernel}
 
@@ -240,11 +240,11 @@ one-back v t =
     (false-by (upscaleOpen (candidate v)) (λ e. let o = upscale-open v code e in not-same (o .0) (withUp (o .0) (o .1)) (o .4) (t .1 (o .0) (withUp (o .0) (o .1)) (o .2) (o .3))))
 
 -- ---- demand 3
-pub reads-met : (v : ℕ) → Exact (Packs v) Leaves (readAnswer v)
+pub reads-met : (v : ℕ) → Demand3 (Packs v) Leaves (readAnswer v)
 reads-met v =
     record {
       one = (one-there v, one-back v);
-      tells = λ e r p. rw e (tells-exact v e r p);
+      described = λ e r p. rw e (tells-exact v e r p);
       none = none-exact v;
       halving = halving-met v;
       upscale = upscale-met v;

@@ -7,7 +7,7 @@ use lib.ListN.{length, replicate, length-append, length-replicate}
 use Rattle.filters.specs.Refine.{upscale}
 use Rattle.layouts.specs.declared.layout.Layout.{Layout}
 use Rattle.layouts.specs.Layout.{spillNeed}
-use Rattle.layouts.specs.Numbers.{buildNo}
+use Rattle.layouts.specs.Refusals.{buildNo}
 use Rattle.layouts.specs.Room.{Ready}
 use Rattle.builder.proofs.Runs.{put-length}
 use Rattle.builder.proofs.Related.{Any, any-bytes, any-ups, any-row}

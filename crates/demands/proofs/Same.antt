@@ -25,11 +25,11 @@ use Rattle.layouts.specs.declared.layout.Layout.{Layout}
 use Rattle.layouts.specs.Storing.{steps}
 use Rattle.layouts.specs.Layout.{levelsOf, storedAt, offsetAt, spillNeed, scratchNeed}
 use Rattle.layouts.specs.Margins.{fusedAt}
-use Rattle.layouts.specs.Numbers.{layoutNo, lentNo, buildNo}
+use Rattle.layouts.specs.Refusals.{layoutNo, lentNo, buildNo}
 use Rattle.builder.specs.Refining.{refine}
 use Rattle.builder.proofs.Stages.{turns}
 use Rattle.planes.specs.Build.{planesOf, copied, halveLevel, halved, refines, refined, built, builtFrame}
-use Rattle.demands.specs.Demands.{Given, layoutOf, SameBuild, withDown, withUp, Builds, leaves, Leaves}
+use Rattle.demands.specs.Demands.{Inputs, withLayout, SameBuild, withDown, withUp, Builds, leaves, Leaves}
 
 steps-none : (step : ℕ → List ℕ → List ℕ) (n : ℕ) (c : List ℕ) → n ≡ 0 → steps step n c ≡ c
 unfolding steps
@@ -41,11 +41,11 @@ halved-none q src sp len (Filter f) c le = steps-none (λ i. halveLevel q src sp
 halved-none q src sp len NoFilter c le = refl
 
 -- down, with one level at most
-pub built-down : (r : SuperOpts) (d : ℤ) (g : Given) (len : ℕ) (c : List ℕ) → levelCount r ≤ 1 → built (layoutOf (withDown r d) g) (g .src) (g .sp) len c ≡ built (layoutOf r g) (g .src) (g .sp) len c
+pub built-down : (r : SuperOpts) (d : ℤ) (g : Inputs) (len : ℕ) (c : List ℕ) → levelCount r ≤ 1 → built (withLayout (withDown r d) g) (g .plane) (g .«src_pitch») len c ≡ built (withLayout r g) (g .plane) (g .«src_pitch») len c
 unfolding built copied refined
 built-down r d g len c le =
-    let first = cond (r .full) (copied (layoutOf r g) (g .src) (g .sp) c) c in
-    rw (halved-none (layoutOf (withDown r d) g) (g .src) (g .sp) len (chosen d) first le, halved-none (layoutOf r g) (g .src) (g .sp) len (chosen (r .«scale_down»)) first le)
+    let first = cond (r .full) (copied (withLayout r g) (g .plane) (g .«src_pitch») c) c in
+    rw (halved-none (withLayout (withDown r d) g) (g .plane) (g .«src_pitch») len (chosen d) first le, halved-none (withLayout r g) (g .plane) (g .«src_pitch») len (chosen (r .«scale_down»)) first le)
 
 pick-go : (n : ℕ) (t : Bool) (c a b l : List ℕ) → (t && leb 1 n) ≡ false → cond (eqb n 0) c (cond t a l) ≡ cond (eqb n 0) c (cond t b l)
 pick-go zero t c a b l e = refl
@@ -68,15 +68,15 @@ changed r d u rc lean =
       height = r .height;
     }
 
-module _ (r : SuperOpts) (d u : ℤ) (rc lean : Bool) (g : Given) where
+module _ (r : SuperOpts) (d u : ℤ) (rc lean : Bool) (g : Inputs) where
   abbrev other : Layout
-  other = layoutOf (changed r d u rc lean) g
+  other = withLayout (changed r d u rc lean) g
 
-  stored-same : (l : ℕ) → storedAt other l ≡ storedAt (layoutOf r g) l
+  stored-same : (l : ℕ) → storedAt other l ≡ storedAt (withLayout r g) l
   stored-same zero = refl
   stored-same (suc l) = refl
 
-  pub offset-same : (l : ℕ) → offsetAt other l ≡ offsetAt (layoutOf r g) l
+  pub offset-same : (l : ℕ) → offsetAt other l ≡ offsetAt (withLayout r g) l
   unfolding offsetAt total
   offset-same zero = refl
   offset-same (suc l) = rw (offset-same l, stored-same l)
@@ -85,38 +85,38 @@ steps-same : (f g : ℕ → List ℕ → List ℕ) (n : ℕ) (c : List ℕ) → 
 steps-same f g n c same = turns {R = λ d e. d ≡ e} f g n (λ i lt. record { each = λ d e is. same i d ∙ ap (g i) is }) .each c c refl
 
 -- nor does halving on up, rc and lean
-module _ (r : SuperOpts) (u : ℤ) (rc lean : Bool) (g : Given) (len : ℕ) where
+module _ (r : SuperOpts) (u : ℤ) (rc lean : Bool) (g : Inputs) (len : ℕ) where
   abbrev still : SuperOpts
   still = changed r (r .«scale_down») u rc lean
 
-  level-same : (f : ReduceFilter) (l : ℕ) (c : List ℕ) → halveLevel (layoutOf still g) (g .src) (g .sp) len f l c ≡ halveLevel (layoutOf r g) (g .src) (g .sp) len f l c
+  level-same : (f : ReduceFilter) (l : ℕ) (c : List ℕ) → halveLevel (withLayout still g) (g .plane) (g .«src_pitch») len f l c ≡ halveLevel (withLayout r g) (g .plane) (g .«src_pitch») len f l c
   unfolding halveLevel fusedAt
   level-same f l c = let at = offset-same r (r .«scale_down») u rc lean g in rw (at l, at (l - 1))
 
-  halved-same : (ch : Chosen) (c : List ℕ) → halved (layoutOf still g) (g .src) (g .sp) len ch c ≡ halved (layoutOf r g) (g .src) (g .sp) len ch c
+  halved-same : (ch : Chosen) (c : List ℕ) → halved (withLayout still g) (g .plane) (g .«src_pitch») len ch c ≡ halved (withLayout r g) (g .plane) (g .«src_pitch») len ch c
   unfolding halved
   halved-same (Filter f) c =
-      steps-same (λ i. halveLevel (layoutOf still g) (g .src) (g .sp) len f (i + 1)) (λ i. halveLevel (layoutOf r g) (g .src) (g .sp) len f (i + 1)) (levelCount r - 1) c
+      steps-same (λ i. halveLevel (withLayout still g) (g .plane) (g .«src_pitch») len f (i + 1)) (λ i. halveLevel (withLayout r g) (g .plane) (g .«src_pitch») len f (i + 1)) (levelCount r - 1) c
       (λ i e. level-same f (i + 1) e)
   halved-same NoFilter c = refl
 
 -- up, where it doesn't matter
-pub built-up : (r : SuperOpts) (u : ℤ) (g : Given) (len : ℕ) (c : List ℕ) → upMatters r ≡ false → built (layoutOf (withUp r u) g) (g .src) (g .sp) len c ≡ built (layoutOf r g) (g .src) (g .sp) len c
+pub built-up : (r : SuperOpts) (u : ℤ) (g : Inputs) (len : ℕ) (c : List ℕ) → upMatters r ≡ false → built (withLayout (withUp r u) g) (g .plane) (g .«src_pitch») len c ≡ built (withLayout r g) (g .plane) (g .«src_pitch») len c
 unfolding built copied refined
 built-up r u g len c e =
-    let first = cond (r .full) (copied (layoutOf r g) (g .src) (g .sp) c) c in
-    let later = halved (layoutOf r g) (g .src) (g .sp) len (chosen (r .«scale_down»)) first in
-    let made : ℤ → List ℕ = λ x. refine (planesOf (layoutOf r g)) (pelOf r) (upscale x) later in
+    let first = cond (r .full) (copied (withLayout r g) (g .plane) (g .«src_pitch») c) c in
+    let later = halved (withLayout r g) (g .plane) (g .«src_pitch») len (chosen (r .«scale_down»)) first in
+    let made : ℤ → List ℕ = λ x. refine (planesOf (withLayout r g)) (pelOf r) (upscale x) later in
     rw (halved-same r u (r .rc) (r .lean) g len (chosen (r .«scale_down»)) first)
-    (pick-go (levelCount r) (refines (layoutOf r g)) c (made u) (made (r .«scale_up»)) later e)
+    (pick-go (levelCount r) (refines (withLayout r g)) c (made u) (made (r .«scale_up»)) later e)
 
 -- rc and lean
-pub leaves-marks : (r : SuperOpts) (rc lean : Bool) (g : Given) → leaves (changed r (r .«scale_down») (r .«scale_up») rc lean) g ≡ leaves r g
+pub leaves-marks : (r : SuperOpts) (rc lean : Bool) (g : Inputs) → leaves (changed r (r .«scale_down») (r .«scale_up») rc lean) g ≡ leaves r g
 unfolding builtFrame built copied refined
 leaves-marks r rc lean g =
     let len = length (g .frame) in
-    let c = g .frame ++ replicate (spillNeed (layoutOf r g)) 0 in
-    let first = cond (r .full) (copied (layoutOf r g) (g .src) (g .sp) c) c in
+    let c = g .frame ++ replicate (spillNeed (withLayout r g)) 0 in
+    let first = cond (r .full) (copied (withLayout r g) (g .plane) (g .«src_pitch») c) c in
     rw (halved-same r (r .«scale_up») rc lean g len (chosen (r .«scale_down»)) first)
 
 -- ---- what a word leaves open of a record that packs to it
@@ -127,7 +127,7 @@ pub told-up : (v : ℕ) (r : SuperOpts) → Packs v r → upscaleOpen (candidate
 told-up v r p = ap upscaleOpen (packs-canon v r p)
 
 -- ---- where the word doesn't leave a filter open, records alike but for it leave the same
-module _ (v : ℕ) (r : SuperOpts) (p : Packs v r) (g : Given) where
+module _ (v : ℕ) (r : SuperOpts) (p : Packs v r) (g : Inputs) where
   pub down-same : (d : ℤ) → isNat d 4 ≡ isNat (r .«scale_down») 4 → halvingOpen (candidate v) ≡ false → leaves (withDown r d) g ≡ leaves r g
   unfolding builtFrame
   down-same d both e =
@@ -152,7 +152,7 @@ module _ (v : ℕ) (r : SuperOpts) (p : Packs v r) (g : Given) where
 abbrev fourOr : SuperOpts → ℤ
 fourOr r = cond (isNat (r .«scale_down») 4) (pos 4) (pos 0)
 
-pub leaves-canon : (v : ℕ) → readNo v ≡ 0 → (r : SuperOpts) → Packs v r → (g : Given) → leaves (candidate v) g ≡ leaves r g
+pub leaves-canon : (v : ℕ) → readNo v ≡ 0 → (r : SuperOpts) → Packs v r → (g : Inputs) → leaves (candidate v) g ≡ leaves r g
 leaves-canon v e r p g =
     let known = at-0 (read-case v) e in
     let same = four-or-not (isNat (r .«scale_down») 4) in
@@ -167,17 +167,17 @@ leaves-canon v e r p g =
     four-fits false = refl
 
 -- ---- what packs to one word builds, or none does: an accepted record's number doesn't depend on its filters, rc and lean
-abbrev pub numberOf : SuperOpts → Given → ℕ
-numberOf r g = let q = layoutOf r g in buildNo q (length (g .src)) (g .sp) (length (g .frame)) (spillNeed q) (scratchNeed q)
+abbrev pub numberOf : SuperOpts → Inputs → ℕ
+numberOf r g = let q = withLayout r g in buildNo q (length (g .plane)) (g .«src_pitch») (length (g .frame)) (spillNeed q) (scratchNeed q)
 
-pub number-same : (r : SuperOpts) (d u : ℤ) (rc lean : Bool) (g : Given) → accepted r ≡ true → accepted (changed r d u rc lean) ≡ true → numberOf (changed r d u rc lean) g ≡ numberOf r g
+pub number-same : (r : SuperOpts) (d u : ℤ) (rc lean : Bool) (g : Inputs) → accepted r ≡ true → accepted (changed r d u rc lean) ≡ true → numberOf (changed r d u rc lean) g ≡ numberOf r g
 unfolding buildNo layoutNo lentNo
 number-same r d u rc lean g good good' = rw (good, good', offset-same r d u rc lean g (levelCount r))
 
-pub builds-canon : (v : ℕ) (r : SuperOpts) → Packs v r → (g : Given) → numberOf (candidate v) g ≡ numberOf r g
+pub builds-canon : (v : ℕ) (r : SuperOpts) → Packs v r → (g : Inputs) → numberOf (candidate v) g ≡ numberOf r g
 builds-canon v r p g = ap (λ (x : SuperOpts). numberOf x g) (packs-canon v r p) ∙ number-same r (fourOr r) (pos 0) (r .rc) (r .lean) g (p .good) (canon-accepted r (p .good))
 
-builds-both : (v : ℕ) (r s : SuperOpts) → Packs v r → Packs v s → (g : Given) → Builds r g → Builds s g
+builds-both : (v : ℕ) (r s : SuperOpts) → Packs v r → Packs v s → (g : Inputs) → Builds r g → Builds s g
 builds-both v r s p q g e = sym (builds-canon v s q g) ∙ builds-canon v r p g ∙ e
 
 -- ---- a word that names one build

@@ -1,11 +1,11 @@
--- One outcome: no second answer, row, frame, spill or scratch meets the contract of a public call (`OneOutcome`), by one law (`settled`). The calls of `settings` and `longhands`, proved there, are named among the imports; then come the rows of `filters`, the inner calls of `settings`, `layouts` and `builder`, and last the public calls of `layouts` and `planes`. docs/EXCEPTIONS.md has those that aren't here. Assumes nothing.
+-- One outcome: no second answer, row, frame, spill or scratch meets the contract of a public call (`OneOutcome`), by one law (`determined`). The calls of `settings` and `longhands`, proved there, are named among the imports; then come the rows of `filters`, the inner calls of `settings`, `layouts` and `builder`, and last the public calls of `layouts` and `planes`. docs/EXCEPTIONS.md has those that aren't here. Assumes nothing.
 use mathlib.Core.Path.{_≡_, ap}
 use mathlib.Core.List.{List}
 use Prim.Native.Nat.{ℕ}
 use contract.Lifetimes.{Lfts}
 use denote.Ref.{ptr, now}
 use Rattle.settings.specs.declared.refusal.Tested.{Tested}
-use Rattle.settings.proofs.Outcome.{OneOutcome, settled, itself}
+use Rattle.settings.proofs.Outcome.{OneOutcome, determined, itself}
 use Rattle.settings.proofs.Known.{tested-known}
 use Rattle.filters.proofs.rows.mean.Reads as mean-reads
 use Rattle.filters.proofs.rows.mean_row.Reads as mean-row-reads
@@ -46,111 +46,111 @@ pub use Rattle.longhands.proofs.Unique.{read-longhand-unique, write-longhand-un
 
 -- ---- the rows of `filters`
 pub mean-unique : (κs : Lfts 0) → OneOutcome (mean-reads.Post κs) (λ r e. r)
-mean-unique κs x r s e f p q = settled itself p q
+mean-unique κs x r s e f p q = determined itself p q
 
 pub mean-row-unique : (κs : Lfts 3) → OneOutcome (mean-row-reads.Post κs) (λ r e. now (e .0))
-mean-row-unique κs x r s e f p q = settled itself p q
+mean-row-unique κs x r s e f p q = determined itself p q
 
 pub copy-row-unique : (κs : Lfts 2) → OneOutcome (copy-row-reads.Post κs) (λ r e. now (e .0))
-copy-row-unique κs x r s e f p q = settled itself p q
+copy-row-unique κs x r s e f p q = determined itself p q
 
 pub zero-row-unique : (κs : Lfts 1) → OneOutcome (zero-row-reads.Post κs) (λ r e. now (e .0))
-zero-row-unique κs x r s e f p q = settled itself p q
+zero-row-unique κs x r s e f p q = determined itself p q
 
 pub rest-unique : (κs : Lfts 1) → OneOutcome (rest-reads.Post κs) (λ r e. now r)
-rest-unique κs x r s e f p q = settled itself p q
+rest-unique κs x r s e f p q = determined itself p q
 
 pub reduce-from-option-unique : (κs : Lfts 0) → OneOutcome (reduce-from-option-reads.Post κs) (λ r e. r)
-reduce-from-option-unique κs x r s e f p q = settled itself p q
+reduce-from-option-unique κs x r s e f p q = determined itself p q
 
 pub first-row-unique : (κs : Lfts 0) → OneOutcome (first-row-reads.Post κs) (λ r e. r)
-first-row-unique κs x r s e f p q = settled itself p q
+first-row-unique κs x r s e f p q = determined itself p q
 
 pub last-row-unique : (κs : Lfts 0) → OneOutcome (last-row-reads.Post κs) (λ r e. r)
-last-row-unique κs x r s e f p q = settled itself p q
+last-row-unique κs x r s e f p q = determined itself p q
 
 pub vertical-edge-unique : (κs : Lfts 0) → OneOutcome (vertical-edge-reads.Post κs) (λ r e. r)
-vertical-edge-unique κs x r s e f p q = settled itself p q
+vertical-edge-unique κs x r s e f p q = determined itself p q
 
 pub vertical-filter-unique : (κs : Lfts 7) → OneOutcome (vertical-filter-reads.Post κs) (λ r e. now (e .1 .0))
-vertical-filter-unique κs x r s e f p q = settled itself p q
+vertical-filter-unique κs x r s e f p q = determined itself p q
 
 pub reduce-row-unique : (κs : Lfts 2) → OneOutcome (reduce-row-reads.Post κs) (λ r e. now (e .1 .0))
-reduce-row-unique κs x r s e f p q = settled itself p q
+reduce-row-unique κs x r s e f p q = determined itself p q
 
 pub cubic-rest-unique : (κs : Lfts 7) → OneOutcome (cubic-rest-reads.Post κs) (λ r e. now (e .0))
-cubic-rest-unique κs x r s e f p q = settled itself p q
+cubic-rest-unique κs x r s e f p q = determined itself p q
 
 pub half-pel-from-option-unique : (κs : Lfts 0) → OneOutcome (half-pel-from-option-reads.Post κs) (λ r e. r)
-half-pel-from-option-unique κs x r s e f p q = settled itself p q
+half-pel-from-option-unique κs x r s e f p q = determined itself p q
 
 pub half-vertical-unique : (κs : Lfts 7) → OneOutcome (half-vertical-reads.Post κs) (λ r e. now (e .1 .0))
-half-vertical-unique κs x r s e f p q = settled itself p q
+half-vertical-unique κs x r s e f p q = determined itself p q
 
 pub half-horizontal-unique : (κs : Lfts 2) → OneOutcome (half-horizontal-reads.Post κs) (λ r e. now (e .1 .0))
-half-horizontal-unique κs x r s e f p q = settled itself p q
+half-horizontal-unique κs x r s e f p q = determined itself p q
 
 -- ---- inner calls
 pub levels-of-unique : (κs : Lfts 0) → OneOutcome (levels-of-reads.Post κs) (λ r e. r)
-levels-of-unique κs x r s e f p q = settled itself p q
+levels-of-unique κs x r s e f p q = determined itself p q
 
 pub width-unique : (κs : Lfts 0) → OneOutcome (width-reads.Post κs) (λ r e. r)
-width-unique κs x r s e f p q = settled itself p q
+width-unique κs x r s e f p q = determined itself p q
 
 pub height-unique : (κs : Lfts 0) → OneOutcome (height-reads.Post κs) (λ r e. r)
-height-unique κs x r s e f p q = settled itself p q
+height-unique κs x r s e f p q = determined itself p q
 
 pub offset-unique : (κs : Lfts 0) → OneOutcome (offset-reads.Post κs) (λ r e. r)
-offset-unique κs x r s e f p q = settled itself p q
+offset-unique κs x r s e f p q = determined itself p q
 
 pub region-unique : (κs : Lfts 0) → OneOutcome (region-reads.Post κs) (λ r e. r)
-region-unique κs x r s e f p q = settled itself p q
+region-unique κs x r s e f p q = determined itself p q
 
 pub spill-need-unique : (κs : Lfts 0) → OneOutcome (spill-need-reads.Post κs) (λ r e. r)
-spill-need-unique κs x r s e f p q = settled itself p q
+spill-need-unique κs x r s e f p q = determined itself p q
 
 pub build-tested-unique : (κs : Lfts 0) → OneOutcome (build-tested-reads.Post κs) (λ r e. r)
-build-tested-unique κs x r s e f p q = settled tested-known p q
+build-tested-unique κs x r s e f p q = determined tested-known p q
 
 pub is-fused-unique : (κs : Lfts 0) → OneOutcome (is-fused-reads.Post κs) (λ r e. r)
-is-fused-unique κs x r s e f p q = settled itself p q
+is-fused-unique κs x r s e f p q = determined itself p q
 
 pub put-unique : (κs : Lfts 2) → OneOutcome (put-reads.Post κs) (λ r e. now (e .0))
-put-unique κs x r s e f p q = settled itself p q
+put-unique κs x r s e f p q = determined itself p q
 
 pub span-unique : (κs : Lfts 1) → OneOutcome {O = (ℕ × ℕ) × List ℕ} (span-reads.Post κs) (λ r e. (ptr r, now r))
-span-unique κs x r s e f p q = rw (settled itself (p .0) (q .0), settled itself (p .2) (q .2))
+span-unique κs x r s e f p q = rw (determined itself (p .0) (q .0), determined itself (p .2) (q .2))
 
 -- ---- the calls of `layouts` and `planes`
 pub level-regions-unique : (κs : Lfts 0) → OneOutcome (level-regions-reads.Post κs) (λ r e. r)
-level-regions-unique κs x r s e f p q = settled laid-known p q
+level-regions-unique κs x r s e f p q = determined laid-known p q
 
 pub written-end-unique : (κs : Lfts 0) → OneOutcome (written-end-reads.Post κs) (λ r e. r)
-written-end-unique κs x r s e f p q = settled ended-known p q
+written-end-unique κs x r s e f p q = determined ended-known p q
 
 pub needs-unique : (κs : Lfts 0) → OneOutcome (needs-reads.Post κs) (λ r e. r)
-needs-unique κs x r s e f p q = settled needed-known p q
+needs-unique κs x r s e f p q = determined needed-known p q
 
 pub row-tested-unique : (κs : Lfts 0) → OneOutcome (row-tested-reads.Post κs) (λ r e. r)
-row-tested-unique κs x r s e f p q = settled tested-known p q
+row-tested-unique κs x r s e f p q = determined tested-known p q
 
 pub row-place-unique : (κs : Lfts 0) → OneOutcome (row-place-reads.Post κs) (λ r e. r)
-row-place-unique κs x r s e f p q = settled placed-known p q
+row-place-unique κs x r s e f p q = determined placed-known p q
 
 -- the bytes of the row, and where they lie
 pub row-unique : (κs : Lfts 1) → OneOutcome {O = (ℕ × ℕ) × List ℕ} (row-reads.Post κs) (λ r e. (ptr r, now r))
-row-unique κs x r s e f p q = rw (settled itself (p .0) (q .0), settled itself (p .1) (q .1))
+row-unique κs x r s e f p q = rw (determined itself (p .0) (q .0), determined itself (p .1) (q .1))
 
 -- the answer and the frame
 pub clear-margins-unique : (κs : Lfts 1) → OneOutcome {O = Tested × List ℕ} (clear-margins-reads.Post κs) (λ r e. (r, now (e .0)))
-clear-margins-unique κs x r s e f p q = settled left-known {a = (r, now (e .0))} {b = (s, now (f .0))} p q
+clear-margins-unique κs x r s e f p q = determined left-known {a = (r, now (e .0))} {b = (s, now (f .0))} p q
 
 -- the answer, the frame, and what spill and scratch are left as
 pub build-plane-unique : (κs : Lfts 4) → OneOutcome {O = Tested × List ℕ × List ℕ × List ℕ} (build-plane-reads.Post κs) (λ r e. (r, now (e .0), now (e .1 .0), now (e .1 .1 .0)))
 build-plane-unique κs x r s e f p q =
-    let frame = settled left-known {a = (r, now (e .0))} {b = (s, now (f .0))} (p .0) (q .0) in
-    let spill = settled left-known {a = (r, now (e .1 .0))} {b = (s, now (f .1 .0))} (p .1) (q .1) in
-    let scratch = settled left-known {a = (r, now (e .1 .1 .0))} {b = (s, now (f .1 .1 .0))} (p .2) (q .2) in
+    let frame = determined left-known {a = (r, now (e .0))} {b = (s, now (f .0))} (p .0) (q .0) in
+    let spill = determined left-known {a = (r, now (e .1 .0))} {b = (s, now (f .1 .0))} (p .1) (q .1) in
+    let scratch = determined left-known {a = (r, now (e .1 .1 .0))} {b = (s, now (f .1 .1 .0))} (p .2) (q .2) in
     rw (number frame, bytes frame, bytes spill, bytes scratch)
   where
     number : {a b : Tested × List ℕ} → a ≡ b → a .0 ≡ b .0

@@ -39,7 +39,7 @@ use Rattle.builder.proofs.Refined.{pel-four}
 use Rattle.builder.proofs.Stages.{refine-kept}
 use Rattle.planes.specs.Build.{planesOf, copied, halveLevel, halved, refines, refined, built, builtFrame}
 use Rattle.planes.proofs.Parts.{halved-kept, refined-kept}
-use Rattle.demands.specs.Demands.{Given, leaves}
+use Rattle.demands.specs.Demands.{Inputs, leaves}
 use Rattle.demands.proofs.Kept.{Has, KeepsByte, has-after, Four, In, cases, steps-first, copied-grows, copied-has, copied-margin, copied-past, level-off, level-keeps, stored-first, source-first, plane-after, fold-keeps, half-keeps, half-means, half-kernel}
 
 -- ---- an accepted record with a level is 4 by 4 at least
@@ -92,7 +92,7 @@ module _ (i : Interp) (fits : i .width + 15 ≤ i .pitch) (hh : 0 < i .height) (
 abbrev pub luma : SuperOpts → Layout
 luma x = record { opts = x; «x_shift» = 0; «y_shift» = 0; pitch = lumaW x + 16 }
 
-abbrev pub flat : SuperOpts → ℕ → Given
+abbrev pub flat : SuperOpts → ℕ → Inputs
 flat x e =
     record {
       «x_shift» = 0;

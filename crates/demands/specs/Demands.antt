@@ -7,42 +7,40 @@ use mathlib.Core.Bool.{true}
 use mathlib.Core.List.{List}
 use lib.IntN.{ℤ}
 use lib.ListN.{length, replicate}
-use Rattle.settings.specs.declared.refusal.Tested.{Tested}
 use Rattle.settings.specs.declared.refusal.Tested.the-variants.{Fine}
 use Rattle.settings.specs.declared.super_opts.SuperOpts.{SuperOpts}
 use Rattle.settings.specs.declared.super_opts.Packed.the-variants.{Word}
 use Rattle.settings.specs.declared.word.Description.{Description}
 use Rattle.settings.specs.Reading.{describe}
-use Rattle.settings.specs.Answers.{Answer, answer, tested, packed, Returns, packAnswer}
+use Rattle.settings.specs.Answers.{Answer, tested, packed, Returns, packAnswer}
 use Rattle.longhands.specs.LittleEndian.{bytes}
 use Rattle.layouts.specs.declared.layout.Layout.{Layout}
 use Rattle.layouts.specs.Layout.{spillNeed, scratchNeed}
-use Rattle.layouts.specs.Numbers.{buildNo}
-use Rattle.planes.specs.Build.{builtFrame}
-use Rattle.planes.specs.Answers.{planeNo, buildAnswer, lentAfter}
+use Rattle.layouts.specs.Refusals.{buildNo}
+use Rattle.planes.specs.Build.{builtFrame, BuildLeaves}
 
 -- ---- "plane, source pitch, layout and starting frame"
 -- a layout is what is not the record's: the shifts and the pitch
-pub record Given : Type 0 where
+pub record Inputs : Type 0 where
   pub «x_shift» : ℕ
   pub «y_shift» : ℕ
   pub pitch : ℕ
-  pub sp : ℕ
-  pub src : List ℕ
+  pub «src_pitch» : ℕ
+  pub plane : List ℕ
   pub frame : List ℕ
 
-abbrev pub layoutOf : SuperOpts → Given → Layout
-layoutOf r g = record { opts = r; «x_shift» = g .«x_shift»; «y_shift» = g .«y_shift»; pitch = g .pitch }
+abbrev pub withLayout : SuperOpts → Inputs → Layout
+withLayout r g = record { opts = r; «x_shift» = g .«x_shift»; «y_shift» = g .«y_shift»; pitch = g .pitch }
 
 -- ---- two records
 -- "leave equal bytes, given the same plane, source pitch, layout and starting frame": what r leaves, s leaves
-abbrev pub SameBuild : (SuperOpts → Given → List ℕ → Type 0) → SuperOpts → SuperOpts → Type 0
-SameBuild Leaves r s = (g : Given) (m : List ℕ) → bytes (g .src) ≡ true → bytes (g .frame) ≡ true → Leaves r g m → Leaves s g m
+abbrev pub SameBuild : (SuperOpts → Inputs → List ℕ → Type 0) → SuperOpts → SuperOpts → Type 0
+SameBuild Leaves r s = (g : Inputs) (m : List ℕ) → bytes (g .plane) ≡ true → bytes (g .frame) ≡ true → Leaves r g m → Leaves s g m
 
 -- "different bytes for some plane, source pitch and layout, the same for both, in a frame of zeros"
-pub record Differ (Leaves : SuperOpts → Given → List ℕ → Type 0) (r s : SuperOpts) : Type 0 where
-  pub at : Given
-  pub is-bytes : bytes (at .src) ≡ true
+pub record Differ (Leaves : SuperOpts → Inputs → List ℕ → Type 0) (r s : SuperOpts) : Type 0 where
+  pub at : Inputs
+  pub is-bytes : bytes (at .plane) ≡ true
   pub zeros : at .frame ≡ replicate (length (at .frame)) 0
   pub one : List ℕ
   pub other : List ℕ
@@ -82,18 +80,18 @@ withUp r u =
     }
 
 -- "two such records, alike but for that one setting, leave different bytes"
-abbrev pub HalvingDiffers : (SuperOpts → Type 0) → (SuperOpts → Given → List ℕ → Type 0) → Type 0
+abbrev pub HalvingDiffers : (SuperOpts → Type 0) → (SuperOpts → Inputs → List ℕ → Type 0) → Type 0
 HalvingDiffers Behind Leaves = (r : SuperOpts) × (d : ℤ) × Behind r × Behind (withDown r d) × Differ Leaves r (withDown r d)
 
-abbrev pub UpscaleDiffers : (SuperOpts → Type 0) → (SuperOpts → Given → List ℕ → Type 0) → Type 0
+abbrev pub UpscaleDiffers : (SuperOpts → Type 0) → (SuperOpts → Inputs → List ℕ → Type 0) → Type 0
 UpscaleDiffers Behind Leaves = (r : SuperOpts) × (u : ℤ) × Behind r × Behind (withUp r u) × Differ Leaves r (withUp r u)
 
 -- ---- the demand, of an answer by its number and value
-pub record Exact (Behind : SuperOpts → Type 0) (Leaves : SuperOpts → Given → List ℕ → Type 0) (a : Answer Description) : Type 0 where
+pub record Demand3 (Behind : SuperOpts → Type 0) (Leaves : SuperOpts → Inputs → List ℕ → Type 0) (a : Answer Description) : Type 0 where
   -- "names one build exactly if some accepted record packs to it and all that do leave equal bytes"
   pub one : (a .no ≡ 0) ↔ (((r : SuperOpts) × Behind r) × ((r s : SuperOpts) → Behind r → Behind s → SameBuild Leaves r s))
   -- "it then tells the width, .. they all have, and their down and up where document 01 says these matter"
-  pub tells : a .no ≡ 0 → (r : SuperOpts) → Behind r → a .value ≡ describe r
+  pub described : a .no ≡ 0 → (r : SuperOpts) → Behind r → a .value ≡ describe r
   -- "It answers "not a code" exactly if none packs to it"
   pub none : (a .no ≡ 20) ↔ ((r : SuperOpts) → Behind r → ⊥)
   -- "that the halving or the upscale filter isn't told exactly if .."; "if both hold, halving is named"
@@ -107,29 +105,21 @@ pub record Exact (Behind : SuperOpts → Type 0) (Leaves : SuperOpts → Given �
 abbrev pub PacksTo : ℕ → SuperOpts → Type 0
 PacksTo v r = Returns r × (packed (Word v) ≡ packAnswer r)
 
--- what `build_plane` promises of its answer and of frame, spill and scratch after it
-abbrev pub BuildPlane : Layout → List ℕ → ℕ → List ℕ → List ℕ → List ℕ → Tested → List ℕ → List ℕ → List ℕ → Type 0
-BuildPlane q src sp frame spill scratch t frame' spill' scratch' =
-    let n = planeNo q src sp frame spill scratch in
-    (answer (tested t) frame' ≡ buildAnswer n q src sp frame)
-    × (answer (tested t) spill' ≡ lentAfter n spill)
-    × (answer (tested t) scratch' ≡ lentAfter n scratch)
-
 -- with some spill and scratch `build_plane` answers that it is done, and leaves m in the frame
-pub record Finished (r : SuperOpts) (g : Given) (m : List ℕ) : Type 0 where
+pub record CallLeaves (r : SuperOpts) (g : Inputs) (m : List ℕ) : Type 0 where
   pub spill : List ℕ
   pub scratch : List ℕ
   pub spill' : List ℕ
   pub scratch' : List ℕ
-  pub call : BuildPlane (layoutOf r g) (g .src) (g .sp) (g .frame) spill scratch Fine m spill' scratch'
+  pub call : BuildLeaves (withLayout r g) (g .plane) (g .«src_pitch») (g .frame) spill scratch (tested Fine) m spill' scratch'
 
 -- ---- by the definitions
 -- the build isn't refused, with as much spill and scratch as it needs
-abbrev pub Builds : SuperOpts → Given → Type 0
-Builds r g = let q = layoutOf r g in buildNo q (length (g .src)) (g .sp) (length (g .frame)) (spillNeed q) (scratchNeed q) ≡ 0
+abbrev pub Builds : SuperOpts → Inputs → Type 0
+Builds r g = let q = withLayout r g in buildNo q (length (g .plane)) (g .«src_pitch») (length (g .frame)) (spillNeed q) (scratchNeed q) ≡ 0
 
-abbrev pub leaves : SuperOpts → Given → List ℕ
-leaves r g = builtFrame (layoutOf r g) (g .src) (g .sp) (g .frame)
+abbrev pub leaves : SuperOpts → Inputs → List ℕ
+leaves r g = builtFrame (withLayout r g) (g .plane) (g .«src_pitch») (g .frame)
 
-abbrev pub Leaves : SuperOpts → Given → List ℕ → Type 0
+abbrev pub Leaves : SuperOpts → Inputs → List ℕ → Type 0
 Leaves r g m = Builds r g × (m ≡ leaves r g)

@@ -1,11 +1,11 @@
--- One outcome: no second number and no other lent slice meets the contract of an exported call (`OneOutcome`), by one law (`settled`). What is seen of a call is its number with each slice that it writes. Assumes nothing.
+-- One outcome: no second number and no other lent slice meets the contract of an exported call (`OneOutcome`), by one law (`determined`). What is seen of a call is its number with each slice that it writes. Assumes nothing.
 use mathlib.Core.List.{List}
 use Prim.Native.Nat.{ℕ}
 use lib.IntN.{ℤ}
 use contract.Lifetimes.{Lfts}
 use denote.Ref.{now}
 use Rattle.settings.specs.Answers.{Answer, answer}
-use Rattle.settings.proofs.Outcome.{OneOutcome, settled, itself}
+use Rattle.settings.proofs.Outcome.{OneOutcome, determined, itself}
 use Rattle.exports.proofs.words.sill_check.Reads as sill-check-reads
 use Rattle.exports.proofs.words.sill_accepted.Reads as sill-accepted-reads
 use Rattle.exports.proofs.words.sill_pack_data.Reads as sill-pack-data-reads
@@ -22,45 +22,45 @@ use Rattle.exports.proofs.plane.sill_row.Reads as sill-row-reads
 use Rattle.exports.proofs.plane.sill_build_plane.Reads as sill-build-plane-reads
 
 pub sill-check-unique : (κs : Lfts 1) → OneOutcome (sill-check-reads.Post κs) (λ r e. answer r (now (e .1 .1 .1 .1 .1 .1 .1 .1 .1 .1 .0)))
-sill-check-unique κs x r s e f p q = settled itself p q
+sill-check-unique κs x r s e f p q = determined itself p q
 
 pub sill-accepted-unique : (κs : Lfts 1) → OneOutcome (sill-accepted-reads.Post κs) (λ r e. r)
-sill-accepted-unique κs x r s e f p q = settled itself p q
+sill-accepted-unique κs x r s e f p q = determined itself p q
 
 pub sill-pack-data-unique : (κs : Lfts 2) → OneOutcome (sill-pack-data-reads.Post κs) (λ r e. answer r (now (e .1 .0)))
-sill-pack-data-unique κs x r s e f p q = settled itself p q
+sill-pack-data-unique κs x r s e f p q = determined itself p q
 
 pub sill-read-word-unique : (κs : Lfts 1) → OneOutcome (sill-read-word-reads.Post κs) (λ r e. answer r (now (e .1 .0)))
-sill-read-word-unique κs x r s e f p q = settled itself p q
+sill-read-word-unique κs x r s e f p q = determined itself p q
 
 pub sill-prepare-alike-unique : (κs : Lfts 0) → OneOutcome (sill-prepare-alike-reads.Post κs) (λ r e. r)
-sill-prepare-alike-unique κs x r s e f p q = settled itself p q
+sill-prepare-alike-unique κs x r s e f p q = determined itself p q
 
 pub sill-super-sizes-unique : (κs : Lfts 2) → OneOutcome (sill-super-sizes-reads.Post κs) (λ r e. answer r (now (e .1 .0)))
-sill-super-sizes-unique κs x r s e f p q = settled itself p q
+sill-super-sizes-unique κs x r s e f p q = determined itself p q
 
 pub sill-longhand-write-unique : (κs : Lfts 2) → OneOutcome (sill-longhand-write-reads.Post κs) (λ r e. answer r (now (e .1 .0)))
-sill-longhand-write-unique κs x r s e f p q = settled itself p q
+sill-longhand-write-unique κs x r s e f p q = determined itself p q
 
 -- with the record's numbers and with the place
 pub sill-longhand-read-unique : (κs : Lfts 3) → OneOutcome {O = Answer (List ℤ) × Answer (List ℕ)} (sill-longhand-read-reads.Post κs) (λ r e. (answer r (now (e .1 .0)), answer r (now (e .1 .1 .0))))
-sill-longhand-read-unique κs x r s e f p q = rw (settled itself (p .0) (q .0), settled itself (p .1) (q .1))
+sill-longhand-read-unique κs x r s e f p q = rw (determined itself (p .0) (q .0), determined itself (p .1) (q .1))
 
 pub sill-level-regions-unique : (κs : Lfts 2) → OneOutcome (sill-level-regions-reads.Post κs) (λ r e. answer r (now (e .1 .1 .1 .1 .0)))
-sill-level-regions-unique κs x r s e f p q = settled itself p q
+sill-level-regions-unique κs x r s e f p q = determined itself p q
 
 pub sill-written-end-unique : (κs : Lfts 2) → OneOutcome (sill-written-end-reads.Post κs) (λ r e. answer r (now (e .1 .1 .1 .1 .0)))
-sill-written-end-unique κs x r s e f p q = settled itself p q
+sill-written-end-unique κs x r s e f p q = determined itself p q
 
 pub sill-needs-unique : (κs : Lfts 2) → OneOutcome (sill-needs-reads.Post κs) (λ r e. answer r (now (e .1 .1 .1 .1 .0)))
-sill-needs-unique κs x r s e f p q = settled itself p q
+sill-needs-unique κs x r s e f p q = determined itself p q
 
 pub sill-clear-margins-unique : (κs : Lfts 2) → OneOutcome (sill-clear-margins-reads.Post κs) (λ r e. answer r (now (e .0)))
-sill-clear-margins-unique κs x r s e f p q = settled itself p q
+sill-clear-margins-unique κs x r s e f p q = determined itself p q
 
 pub sill-row-unique : (κs : Lfts 2) → OneOutcome (sill-row-reads.Post κs) (λ r e. answer r (now (e .1 .1 .1 .1 .1 .1 .1 .1 .0)))
-sill-row-unique κs x r s e f p q = settled itself p q
+sill-row-unique κs x r s e f p q = determined itself p q
 
 -- with the frame, with what spill and with what scratch is left as
 pub sill-build-plane-unique : (κs : Lfts 5) → OneOutcome {O = Answer (List ℕ) × Answer (List ℕ) × Answer (List ℕ)} (sill-build-plane-reads.Post κs) (λ r e. (answer r (now (e .0)), answer r (now (e .1 .0)), answer r (now (e .1 .1 .0))))
-sill-build-plane-unique κs x r s e f p q = rw (settled itself (p .0) (q .0), settled itself (p .1) (q .1), settled itself (p .2) (q .2))
+sill-build-plane-unique κs x r s e f p q = rw (determined itself (p .0) (q .0), determined itself (p .1) (q .1), determined itself (p .2) (q .2))

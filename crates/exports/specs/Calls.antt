@@ -11,13 +11,13 @@ use Rattle.settings.specs.declared.super_opts.SuperOpts.{SuperOpts}
 use Rattle.settings.specs.Check.{settled, settingsNo, recordNo, superHeight, superWidth}
 use Rattle.settings.specs.Word.{packNo, wordOf}
 use Rattle.settings.specs.Reading.{candidate, readNo, describe}
-use Rattle.settings.specs.Answers.{Answer, answer, complete, written}
+use Rattle.settings.specs.Answers.{Answer, answer, ifDone, written}
 use Rattle.longhands.specs.Longhand.{longhandNo, longhandAnswer}
 use Rattle.layouts.specs.declared.layout.Layout.{Layout}
 use Rattle.layouts.specs.declared.layout.Needs.{Needs}
 use Rattle.layouts.specs.declared.rows.Run.{Run}
 use Rattle.layouts.specs.Layout.{levelsOf, regionOr, writtenEnd}
-use Rattle.layouts.specs.Numbers.{layoutNo, rowNo}
+use Rattle.layouts.specs.Refusals.{layoutNo, rowNo}
 use Rattle.layouts.specs.Answers.{Columns, columns, needsOf, runOf}
 use Rattle.answers.specs.Fields.{numbersOf, recordOf, toldNumbers}
 use Rattle.answers.specs.Lent.{lowest, tells}
@@ -67,7 +67,7 @@ longhandReadNo l fields after = lowest (longhandNo l) (ltb (length fields) 10 ||
 
 -- what a call of number n leaves of the first: the record's numbers
 abbrev pub fieldsTells : ℕ → List ℕ → List ℤ → Answer (List ℤ)
-fieldsTells n l fields = complete n (written (numbersOf (longhandAnswer l .value .opts)) fields) fields
+fieldsTells n l fields = ifDone n (written (numbersOf (longhandAnswer l .value .opts)) fields) fields
 
 -- and of the second: "A refused read gives zeros and, but for 16, place 0"; here nothing where there is no place
 abbrev pub placeTells : ℕ → List ℕ → List ℕ → Answer (List ℕ)

@@ -2,7 +2,7 @@
 ghost use mathlib.Core.Path.{_≡_};
 ghost use Rattle.settings.specs.Answers.{answer};
 ghost use Rattle.layouts.specs.Answers.{clearAnswer};
-ghost use Rattle.planes.specs.Answers.{planeNo, buildAnswer, lentAfter};
+ghost use Rattle.planes.specs.Build.{BuildLeaves};
 ghost use Rattle.exports.specs.Calls.{layoutOf};
 ghost use Rattle.exports.specs.Calls.{regionsTells, endTells, needsTells, rowTells};
 use answers::record::record_of;
@@ -139,10 +139,7 @@ pub extern "C" fn sill_build_plane(
     src: &[u8],
     src_pitch: usize,
 ) -> u32
-    ensures { λ r. ⌜
-        (answer r (now (frame .exit)) ≡ buildAnswer (planeNo (layoutOf (now (fields .entry)) «x_shift» «y_shift» pitch) (now (src .entry)) «src_pitch» (now (frame .entry)) (now (spill .entry)) (now (scratch .entry))) (layoutOf (now (fields .entry)) «x_shift» «y_shift» pitch) (now (src .entry)) «src_pitch» (now (frame .entry)))
-        × (answer r (now (spill .exit)) ≡ lentAfter (planeNo (layoutOf (now (fields .entry)) «x_shift» «y_shift» pitch) (now (src .entry)) «src_pitch» (now (frame .entry)) (now (spill .entry)) (now (scratch .entry))) (now (spill .entry)))
-        × (answer r (now (scratch .exit)) ≡ lentAfter (planeNo (layoutOf (now (fields .entry)) «x_shift» «y_shift» pitch) (now (src .entry)) «src_pitch» (now (frame .entry)) (now (spill .entry)) (now (scratch .entry))) (now (scratch .entry))) ⌝ }
+    ensures { λ r. ⌜ BuildLeaves (layoutOf (now (fields .entry)) «x_shift» «y_shift» pitch) (now (src .entry)) «src_pitch» (now (frame .entry)) (now (spill .entry)) (now (scratch .entry)) r (now (frame .exit)) (now (spill .exit)) (now (scratch .exit)) ⌝ }
 {
     let layout = layout_of(fields, x_shift, y_shift, pitch);
     number(build_plane(frame, spill, scratch, layout, src, src_pitch))

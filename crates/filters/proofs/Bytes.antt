@@ -10,7 +10,6 @@ use lib.ListN.{getD, List·getD-eq-default}
 use Rattle.filters.specs.declared.halving.ReduceFilter.{ReduceFilter}
 use Rattle.filters.specs.declared.halving.ReduceFilter.the-variants.{Average, Bilinear, Quadratic, Cubic}
 use Rattle.filters.specs.declared.half_pel.HalfPel.{HalfPel}
-use Rattle.filters.specs.declared.half_pel.HalfPel.the-variants.{CatmullRom, Wiener}
 use Rattle.filters.specs.Row.{Six, tab, meanOf, meansOf, sixAt, sixes, around}
 use Rattle.filters.specs.Halve.{isEdge, weigh, restOf, headed, horizontalAt, horizontalRow}
 use Rattle.filters.specs.Refine.{nearEdge, kernel, held, halfPel, halfSample, halfHorizontal, halfVertical}

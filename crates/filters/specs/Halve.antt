@@ -9,7 +9,7 @@ use Rattle.filters.specs.declared.halving.ReduceFilter.{ReduceFilter}
 use Rattle.filters.specs.declared.halving.ReduceFilter.the-variants.{Average, Bilinear, Quadratic, Cubic}
 use Rattle.filters.specs.declared.halving.Chosen.{Chosen}
 use Rattle.filters.specs.declared.halving.Chosen.the-variants.{Filter, NoFilter}
-use Rattle.filters.specs.Row.{Six, tab, meanOf, sixes, around}
+use Rattle.filters.specs.Row.{Six, tab, meanOf, around}
 
 -- "down 0 or 1 (average), 2 (bilinear), 3 (quadratic), 4 (cubic); any other value leaves later levels unwritten"
 abbrev pub chosenNat : ℕ → Chosen

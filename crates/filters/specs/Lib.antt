@@ -3,7 +3,7 @@
 --     Halve     the halving filters: weights, edges, a row from six rows, a row of pairs halved
 --     Refine    the half-pel kernels, and which place takes what
 --     H264      the half sample of ITU-T H.264 over the integers
---     Inner     what the code goes by on its way
+--     Inner     inner: what the code goes by on its way, and document 01 doesn't have
 -- What is proved of these is in proofs/.
 pub mod Row
 pub mod Halve

@@ -5,7 +5,7 @@ use Prim.Native.Nat.{ℕ}
 use lib.ListN.{length}
 use Rattle.settings.specs.declared.refusal.Tested.{Tested}
 use Rattle.settings.specs.Limits.{mostLevels}
-use Rattle.settings.specs.Answers.{Answer, answer, number, tested}
+use Rattle.settings.specs.Answers.{Answer, answer, tested}
 use Rattle.settings.proofs.Known.{known-by, from, value-back, refusal-back, tested-known}
 use Rattle.filters.proofs.Tables.{tab-length}
 use Rattle.layouts.specs.declared.layout.Region.{Region}

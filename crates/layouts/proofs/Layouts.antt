@@ -21,7 +21,7 @@ use Rattle.settings.proofs.Known.{given, number-then}
 use Rattle.settings.proofs.Accepted.{within}
 use Rattle.layouts.specs.declared.layout.Layout.{Layout}
 use Rattle.layouts.specs.Layout.{levelsOf, writtenEnd, rowStart, regionAt, regionOr, noRegion, widthAt, heightAt, storedAt, bytesAt, offsetAt}
-use Rattle.layouts.specs.Numbers.{leastPitch, badPitch, layoutNo, frameNo, noRow, rowNo}
+use Rattle.layouts.specs.Refusals.{leastPitch, badPitch, layoutNo, frameNo, noRow, rowNo}
 use Rattle.layouts.specs.Answers.{endAnswer}
 use Rattle.layouts.specs.Room.{mostOffset}
 use Rattle.layouts.proofs.Choices.{cond-yes}

@@ -5,7 +5,7 @@ use mathlib.Core.List.{List, []}
 use lib.Dec.{eqb}
 use lib.ListN.{length, take, drop}
 use Rattle.settings.specs.Limits.{mostLevels}
-use Rattle.settings.specs.Answers.{Answer, answer, complete, number, tested}
+use Rattle.settings.specs.Answers.{Answer, answer, ifDone, number, tested}
 use Rattle.filters.specs.Row.{tab}
 use Rattle.layouts.specs.declared.layout.Layout.{Layout}
 use Rattle.layouts.specs.declared.layout.Region.{Region}
@@ -20,7 +20,7 @@ use Rattle.layouts.specs.declared.rows.Placed.{Placed}
 use Rattle.layouts.specs.declared.rows.Placed.the-variants.{At, Refused as PlaceRefused}
 use Rattle.layouts.specs.Layout.{levelsOf, widthAt, rowStart, regionOr, noRegion, writtenEnd, spillNeed, scratchNeed}
 use Rattle.layouts.specs.Margins.{cleared}
-use Rattle.layouts.specs.Numbers.{layoutNo, frameNo, rowNo}
+use Rattle.layouts.specs.Refusals.{layoutNo, frameNo, rowNo}
 
 -- the regions of the levels, in columns
 pub record Columns : Type 0 where
@@ -40,10 +40,10 @@ columns n at =
 
 -- "a refused .. end or layout zeros"
 abbrev pub layoutAnswer : Layout → Answer Columns
-layoutAnswer q = complete (layoutNo q) (columns (levelsOf q) (regionOr q)) (columns 0 (λ l. noRegion))
+layoutAnswer q = ifDone (layoutNo q) (columns (levelsOf q) (regionOr q)) (columns 0 (λ l. noRegion))
 
 abbrev pub endAnswer : Layout → Answer ℕ
-endAnswer q = complete (layoutNo q) (writtenEnd q) 0
+endAnswer q = ifDone (layoutNo q) (writtenEnd q) 0
 
 -- what a build needs beside the frame: the needs of numbers 12 and 13
 abbrev pub needsOf : Layout → Needs
@@ -53,7 +53,7 @@ abbrev pub noNeeds : Needs
 noNeeds = record { spill = 0; scratch = 0 }
 
 abbrev pub needsAnswer : Layout → Answer Needs
-needsAnswer q = complete (layoutNo q) (needsOf q) noNeeds
+needsAnswer q = ifDone (layoutNo q) (needsOf q) noNeeds
 
 -- where row y of plane k of level l lies, in a frame of len bytes
 abbrev pub runOf : Layout → ℕ → ℕ → ℕ → Run
@@ -63,7 +63,7 @@ abbrev pub noRun : Run
 noRun = record { offset = 0; length = 0 }
 
 abbrev pub placeAnswer : Layout → ℕ → ℕ → ℕ → ℕ → Answer Run
-placeAnswer q len l k y = complete (rowNo q len l k y) (runOf q l k y) noRun
+placeAnswer q len l k y = ifDone (rowNo q len l k y) (runOf q l k y) noRun
 
 -- "A row is its level's w bytes. A refused row is the empty part"
 unfoldable pub rowPart : Layout → List ℕ → ℕ → ℕ → ℕ → List ℕ
@@ -75,7 +75,7 @@ rowFrom q len l k y = cond (eqb (rowNo q len l k y) 0) (rowStart q l k y) 0
 
 -- clearing margins, with the frame that it leaves: "no refusal changes a lent byte"
 abbrev pub clearAnswer : Layout → List ℕ → Answer (List ℕ)
-clearAnswer q f = complete (frameNo q (length f)) (cleared q f) f
+clearAnswer q f = ifDone (frameNo q (length f)) (cleared q f) f
 
 -- ---- the answers
 abbrev pub laid : Laid → Answer Columns

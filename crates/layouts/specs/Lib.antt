@@ -2,13 +2,13 @@
 --     Storing    a run stored in a list of bytes, steps in order, and where a part of a slice lies
 --     Layout     a plane's levels, and where they lie
 --     Margins    which levels are fused, and the margins of those that aren't
---     Numbers    the numbers that a call refuses with
---     Room       what no offset exceeds, and what a build is lent
+--     Refusals   the numbers that a call refuses with
+--     Room       inner: what no offset exceeds, and what a build is lent
 --     Answers    the number and value of a layout's calls, and of each answer
 -- What is proved of these is in proofs/.
 pub mod Storing
 pub mod Layout
 pub mod Margins
-pub mod Numbers
+pub mod Refusals
 pub mod Room
 pub mod Answers

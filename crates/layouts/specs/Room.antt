@@ -1,10 +1,10 @@
--- What no offset exceeds, and what a build that isn't refused has of the slices that it is lent.
+-- Inner: what no offset exceeds, and what a build that isn't refused has of the slices that it is lent.
 use mathlib.Core.Path.{_≡_}
 use Prim.Native.Nat.{ℕ, _*_, _≤_}
 use Rattle.settings.specs.Limits.{mostSide, mostPitch, mostLevels}
 use Rattle.layouts.specs.declared.layout.Layout.{Layout}
 use Rattle.layouts.specs.Layout.{widthAt, writtenEnd, spillNeed, scratchNeed}
-use Rattle.layouts.specs.Numbers.{layoutNo, sourceNeed}
+use Rattle.layouts.specs.Refusals.{layoutNo, sourceNeed}
 
 -- what no offset of an accepted layout exceeds
 abbrev pub mostOffset : ℕ

@@ -1,7 +1,7 @@
 // Where a plane's levels lie in a frame: the head of open-svpflow's super_build.rs, its names kept.
 // First the types; then the regions of all levels, where the last one ends, and what a build needs beside the frame.
 ghost use mathlib.Core.Path.{_≡_};
-ghost use Rattle.layouts.specs.Numbers.{layoutNo};
+ghost use Rattle.layouts.specs.Refusals.{layoutNo};
 ghost use Rattle.layouts.specs.Answers.{ended, endAnswer, laid, layoutAnswer, needed, needsAnswer};
 use crate::lent;
 use crate::levels;

@@ -5,7 +5,7 @@ ghost use Prim.Native.Nat.{_≤_};
 ghost use Rattle.settings.specs.Limits.{mostPitch};
 ghost use Rattle.settings.specs.Answers.{tested};
 ghost use Rattle.layouts.specs.Layout.{spillNeed, scratchNeed};
-ghost use Rattle.layouts.specs.Numbers.{layoutNo, sourceNeed, lentNo, buildNo};
+ghost use Rattle.layouts.specs.Refusals.{layoutNo, sourceNeed, lentNo, buildNo};
 use crate::layout::Layout;
 use crate::levels::bad_pitch;
 use crate::levels::height;

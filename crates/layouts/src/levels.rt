@@ -5,7 +5,7 @@ ghost use Prim.Native.Nat.{_/_, _^_, _≤_};
 ghost use Rattle.settings.specs.Limits.{mostLevels};
 ghost use Rattle.settings.specs.Answers.{tested};
 ghost use Rattle.layouts.specs.Layout.{widthAt, heightAt, storedAt, offsetAt, regionOr};
-ghost use Rattle.layouts.specs.Numbers.{leastPitch, badPitch, layoutNo, frameNo};
+ghost use Rattle.layouts.specs.Refusals.{leastPitch, badPitch, layoutNo, frameNo};
 use crate::layout::Ended;
 use crate::layout::Layout;
 use crate::layout::Region;

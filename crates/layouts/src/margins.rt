@@ -7,7 +7,7 @@ ghost use Rattle.settings.specs.Limits.{mostSide, mostPitch};
 ghost use Rattle.settings.specs.Answers.{answer, tested};
 ghost use Rattle.layouts.specs.Layout.{levelsOf, writtenEnd};
 ghost use Rattle.layouts.specs.Margins.{cubicFits, fusedAt, clearRows, clearLevel, cleared};
-ghost use Rattle.layouts.specs.Numbers.{layoutNo};
+ghost use Rattle.layouts.specs.Refusals.{layoutNo};
 ghost use Rattle.layouts.specs.Answers.{clearAnswer};
 ghost use Rattle.layouts.specs.Room.{mostOffset};
 use crate::layout::Layout;

@@ -6,7 +6,7 @@ ghost use denote.Ref.{ptr};
 ghost use Rattle.settings.specs.Answers.{tested};
 ghost use Rattle.layouts.specs.Storing.{partAt};
 ghost use Rattle.layouts.specs.Layout.{rowStart};
-ghost use Rattle.layouts.specs.Numbers.{layoutNo, noRow, rowNo};
+ghost use Rattle.layouts.specs.Refusals.{layoutNo, noRow, rowNo};
 ghost use Rattle.layouts.specs.Answers.{placed, placeAnswer, rowPart, rowFrom};
 use crate::layout::Layout;
 use crate::levels::frame_tested;

@@ -11,7 +11,7 @@ use Rattle.settings.specs.declared.refusal.Refusal.{Refusal}
 use Rattle.settings.specs.declared.super_opts.SuperOpts.{SuperOpts}
 use Rattle.settings.specs.Numbers.{refuse}
 use Rattle.settings.specs.Check.{recordNo}
-use Rattle.settings.specs.Answers.{answer, complete, number, noRecord, written}
+use Rattle.settings.specs.Answers.{answer, ifDone, number, noRecord, written}
 use Rattle.settings.proofs.Tests.{or-false-left, or-false-right}
 use Rattle.settings.proofs.Refusals.{then-first, then-rest, refuse-not}
 use Rattle.settings.proofs.Known.{given, number-then, number-some, number-not-16, number-of, value-given}
@@ -68,12 +68,12 @@ unfolding longhandNo
 by-body l e k n = rw (e, k, n)
 
 -- b is the body, and `given` what reading it answers
-pub body-read : {r : SuperOpts} {b : List ℕ} (l : List ℕ) → lengthNo l ≡ 0 → kindOf l ≡ 1 → lengthOf l ≡ 17 → b ≡ bodyOf l → answer 0 r ≡ complete (refuse (not (kind1Good b)) 18) (kind1Record b) noRecord → answer 0 (record { opts = r; after = placeAfter l }) ≡ longhandAnswer l
+pub body-read : {r : SuperOpts} {b : List ℕ} (l : List ℕ) → lengthNo l ≡ 0 → kindOf l ≡ 1 → lengthOf l ≡ 17 → b ≡ bodyOf l → answer 0 r ≡ ifDone (refuse (not (kind1Good b)) 18) (kind1Record b) noRecord → answer 0 (record { opts = r; after = placeAfter l }) ≡ longhandAnswer l
 body-read {r} {b} l e k n same given =
     let none = by-body l e k n ∙ ap (λ (x : List ℕ). refuse (not (kind1Good x)) 18) (sym same) ∙ sym (number-of given) in
     rw (none, k, ← same, value-given (kind1Record b) noRecord given)
 
-pub body-refused : {b : List ℕ} (l : List ℕ) (f : Refusal) → lengthNo l ≡ 0 → kindOf l ≡ 1 → lengthOf l ≡ 17 → b ≡ bodyOf l → answer (number f) noRecord ≡ complete (refuse (not (kind1Good b)) 18) (kind1Record b) noRecord → answer (number f) (noLonghand 0) ≡ longhandAnswer l
+pub body-refused : {b : List ℕ} (l : List ℕ) (f : Refusal) → lengthNo l ≡ 0 → kindOf l ≡ 1 → lengthOf l ≡ 17 → b ≡ bodyOf l → answer (number f) noRecord ≡ ifDone (refuse (not (kind1Good b)) 18) (kind1Record b) noRecord → answer (number f) (noLonghand 0) ≡ longhandAnswer l
 body-refused l f e k n same given = rw (by-body l e k n ∙ ap (λ (x : List ℕ). refuse (not (kind1Good x)) 18) (sym same) ∙ sym (number-of given), number-some f, number-not-16 f)
 
 -- ---- what writing leaves

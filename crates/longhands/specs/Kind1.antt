@@ -6,7 +6,7 @@ use lib.Dec.{ltb}
 use lib.IntN.{pos}
 use Rattle.settings.specs.declared.super_opts.SuperOpts.{SuperOpts}
 use Rattle.settings.specs.Numbers.{toNat, bit, bitsOf, ofBits}
-use Rattle.settings.specs.Sizes.{levelsOf}
+use Rattle.settings.specs.Sizes.{autoLevels}
 use Rattle.settings.specs.Check.{accepted, pelOf, lumaW, lumaH}
 use Rattle.settings.specs.Reading.{isSet}
 use Rattle.longhands.specs.LittleEndian.{littleEndian, numberAt}
@@ -43,7 +43,7 @@ kind1Record b =
       full = isSet (flagsAt b) 0;
       rc = isSet (flagsAt b) 1;
       lean = isSet (flagsAt b) 2;
-      levels = pos (levelsOf (numberAt b 0 2) (numberAt b 2 2));
+      levels = pos (autoLevels (numberAt b 0 2) (numberAt b 2 2));
       width = pos (numberAt b 0 2);
       height = pos (numberAt b 2 2);
     }

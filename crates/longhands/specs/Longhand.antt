@@ -9,7 +9,7 @@ use lib.ListN.{length, take, drop}
 use Rattle.settings.specs.declared.super_opts.SuperOpts.{SuperOpts}
 use Rattle.settings.specs.Numbers.{isI32, refuse, _then_}
 use Rattle.settings.specs.Check.{accepted, recordNo}
-use Rattle.settings.specs.Answers.{Answer, answer, complete, number, noRecord, written}
+use Rattle.settings.specs.Answers.{Answer, answer, ifDone, number, noRecord, written}
 use Rattle.longhands.specs.declared.longhand.Longhand.{Longhand}
 use Rattle.longhands.specs.declared.longhand.Read.{Read}
 use Rattle.longhands.specs.declared.longhand.Read.the-variants.{Record, Unknown, Refused}
@@ -95,7 +95,7 @@ writeNo r lent = recordNo r then refuse (ltb (length lent) kind1Bytes) 15
 
 -- "nothing is written on either"
 abbrev pub writeAnswer : SuperOpts → List ℕ → Answer (List ℕ)
-writeAnswer r lent = complete (writeNo r lent) (written (longhandOf r) lent) lent
+writeAnswer r lent = ifDone (writeNo r lent) (written (longhandOf r) lent) lent
 
 -- ---- what is asked of both
 -- l begins with the longhand of r, an accepted record of i32 filters: "Every accepted record survives writing and reading, and one record has one encoding"

@@ -4,7 +4,7 @@ ghost use mathlib.Core.Bool.{not};
 ghost use lib.ListN.{length};
 ghost use Prim.Native.Nat.{_%_};
 ghost use Rattle.settings.specs.Numbers.{refuse};
-ghost use Rattle.settings.specs.Answers.{checked, complete, noRecord};
+ghost use Rattle.settings.specs.Answers.{checked, ifDone, noRecord};
 ghost use Rattle.longhands.specs.Kind1.{flagsOf, kind1Body, kind1Record, kind1Good};
 use crate::little_endian::bytes_2;
 use crate::little_endian::bytes_4;
@@ -61,7 +61,7 @@ pub fn body(opts: SuperOpts) -> [u8; BODY]
 // Refusal 18.
 pub fn read_body(body: &[u8]) -> Checked
     requires { ⌜ length (now body) ≡ 15 ⌝ }
-    ensures { λ r. ⌜ checked r ≡ complete (refuse (not (kind1Good (now (body .entry)))) 18) (kind1Record (now (body .entry))) noRecord ⌝ }
+    ensures { λ r. ⌜ checked r ≡ ifDone (refuse (not (kind1Good (now (body .entry)))) 18) (kind1Record (now (body .entry))) noRecord ⌝ }
 {
     let opts = spelled(body);
     let good = opts.accepted() & (body[6] < 8);

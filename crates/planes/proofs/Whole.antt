@@ -20,7 +20,7 @@ use Rattle.filters.specs.Halve.{chosen}
 use Rattle.filters.specs.Refine.{upscale}
 use Rattle.layouts.specs.declared.layout.Layout.{Layout}
 use Rattle.layouts.specs.Layout.{levelsOf, widthAt, heightAt, storedAt, writtenEnd, spillNeed, scratchNeed}
-use Rattle.layouts.specs.Numbers.{badPitch, sourceNeed, layoutNo, lentNo, buildNo}
+use Rattle.layouts.specs.Refusals.{badPitch, sourceNeed, layoutNo, lentNo, buildNo}
 use Rattle.layouts.specs.Room.{Ready}
 use Rattle.layouts.proofs.Choices.{cond-yes, cond-no}
 use Rattle.layouts.proofs.Loops.{row-in}

@@ -1,4 +1,5 @@
--- Document 01, "How a plane is built": the whole, in the document's order.
+-- Document 01, "How a plane is built": the whole, in the document's order; last its number and value.
+use mathlib.Core.Path.{_≡_}
 use Prim.Native.Nat.{ℕ, _+_, _*_, _-_}
 use mathlib.Core.Bool.{Bool, cond, _&&_, _||_}
 use mathlib.Core.List.{List, _++_}
@@ -6,6 +7,7 @@ use lib.Dec.{leb, ltb, eqb}
 use lib.ListN.{length, take, replicate}
 use Rattle.settings.specs.Numbers.{toNat}
 use Rattle.settings.specs.Check.{pelOf}
+use Rattle.settings.specs.Answers.{Answer, answer, ifDone}
 use Rattle.filters.specs.declared.halving.ReduceFilter.{ReduceFilter}
 use Rattle.filters.specs.declared.halving.Chosen.{Chosen}
 use Rattle.filters.specs.declared.halving.Chosen.the-variants.{Filter, NoFilter}
@@ -15,6 +17,7 @@ use Rattle.layouts.specs.declared.layout.Layout.{Layout}
 use Rattle.layouts.specs.Storing.{put, steps}
 use Rattle.layouts.specs.Layout.{levelsOf, widthAt, heightAt, offsetAt, regionAt, spillNeed}
 use Rattle.layouts.specs.Margins.{fusedAt}
+use Rattle.layouts.specs.Refusals.{buildNo}
 use Rattle.builder.specs.declared.refining.Interp.{Interp}
 use Rattle.builder.specs.Canvas.{fetch, _▷_}
 use Rattle.builder.specs.Halving.{fromStored, fused, fromSource}
@@ -56,3 +59,22 @@ built q src sp len c =
 -- "A byte stored past the frame goes to the spill", which holds zeros before; what is left is the frame
 unfoldable pub builtFrame : Layout → List ℕ → ℕ → List ℕ → List ℕ
 builtFrame q src sp f = take (length f) (built q src sp (length f) (f ++ replicate (spillNeed q) 0))
+
+-- ---- its number and value
+-- building, by what it is lent
+abbrev pub planeNo : Layout → List ℕ → ℕ → List ℕ → List ℕ → List ℕ → ℕ
+planeNo q src sp frame spill scratch = buildNo q (length src) sp (length frame) (length spill) (length scratch)
+
+-- by its number, with the frame that it leaves
+abbrev pub buildAnswer : ℕ → Layout → List ℕ → ℕ → List ℕ → Answer (List ℕ)
+buildAnswer n q src sp f = ifDone n (builtFrame q src sp f) f
+
+-- spill or scratch: "After a finished build, spill and scratch are zero throughout"; "no refusal changes a lent byte"
+abbrev pub lentAfter : ℕ → List ℕ → Answer (List ℕ)
+lentAfter n lent = ifDone n (replicate (length lent) 0) lent
+
+-- what a build of number no leaves in the frame, in spill and in scratch
+abbrev pub BuildLeaves : Layout → List ℕ → ℕ → List ℕ → List ℕ → List ℕ → ℕ → List ℕ → List ℕ → List ℕ → Type 0
+BuildLeaves q src sp frame spill scratch no frame' spill' scratch' =
+    let n = planeNo q src sp frame spill scratch in
+    (answer no frame' ≡ buildAnswer n q src sp frame) × (answer no spill' ≡ lentAfter n spill) × (answer no scratch' ≡ lentAfter n scratch)

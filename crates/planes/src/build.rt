@@ -5,12 +5,11 @@ ghost use mathlib.Core.Bool.{cond};
 ghost use mathlib.Core.List.{_++_};
 ghost use Prim.Native.Nat.{_≤_};
 ghost use lib.ListN.{length};
-ghost use Rattle.settings.specs.Answers.{answer, tested};
+ghost use Rattle.settings.specs.Answers.{tested};
 ghost use Rattle.layouts.specs.Layout.{levelsOf, writtenEnd, spillNeed, scratchNeed};
-ghost use Rattle.layouts.specs.Numbers.{layoutNo};
+ghost use Rattle.layouts.specs.Refusals.{layoutNo};
 ghost use Rattle.layouts.specs.Room.{Ready};
-ghost use Rattle.planes.specs.Build.{copied, refined, built, builtFrame};
-ghost use Rattle.planes.specs.Answers.{planeNo, buildAnswer, lentAfter};
+ghost use Rattle.planes.specs.Build.{copied, refined, built, builtFrame, BuildLeaves};
 use crate::later::reduce_levels;
 use crate::level0::source_row;
 use builder::canvas::put;
@@ -109,10 +108,7 @@ pub fn build_plane(
     src: &[u8],
     src_pitch: usize,
 ) -> Tested
-    ensures { λ r. ⌜
-        (answer (tested r) (now (frame .exit)) ≡ buildAnswer (planeNo layout (now (src .entry)) «src_pitch» (now (frame .entry)) (now (spill .entry)) (now (scratch .entry))) layout (now (src .entry)) «src_pitch» (now (frame .entry)))
-        × (answer (tested r) (now (spill .exit)) ≡ lentAfter (planeNo layout (now (src .entry)) «src_pitch» (now (frame .entry)) (now (spill .entry)) (now (scratch .entry))) (now (spill .entry)))
-        × (answer (tested r) (now (scratch .exit)) ≡ lentAfter (planeNo layout (now (src .entry)) «src_pitch» (now (frame .entry)) (now (spill .entry)) (now (scratch .entry))) (now (scratch .entry))) ⌝ }
+    ensures { λ r. ⌜ BuildLeaves layout (now (src .entry)) «src_pitch» (now (frame .entry)) (now (spill .entry)) (now (scratch .entry)) (tested r) (now (frame .exit)) (now (spill .exit)) (now (scratch .exit)) ⌝ }
 {
     let t = build_tested(
         layout,

@@ -15,9 +15,9 @@ use Rattle.settings.specs.declared.super_opts.Settings.{Settings}
 use Rattle.settings.specs.declared.super_opts.SuperOpts.{SuperOpts}
 use Rattle.settings.specs.Limits.{mostSide, mostLevels}
 use Rattle.settings.specs.Numbers.{isNat, toNat, isI32, refuse, _then_}
-use Rattle.settings.specs.Sizes.{levelsOf}
+use Rattle.settings.specs.Sizes.{autoLevels}
 use Rattle.settings.specs.Check.{intOr, settled, isPel, isGpu, noFinest, badLean, isSide, settingsNo, pelOf, lumaW, lumaH, levelCount, accepted, recordNo, optI32, SettingsI32, RecordI32}
-use Rattle.settings.specs.Answers.{Answer, answer, complete, noRecord, checkAnswer, Returns}
+use Rattle.settings.specs.Answers.{Answer, answer, ifDone, noRecord, checkAnswer, Returns}
 use Rattle.settings.proofs.Tests.{and-left, and-right, or-cases, or-false-left, or-false-right}
 use Rattle.settings.proofs.Refusals.{then-first, then-rest, refuse-not}
 use Rattle.settings.proofs.Levels.{levels-small}
@@ -31,24 +31,24 @@ is-nat-pos (negsuc a) n e = cc
 pub record Fine (r : SuperOpts) : Type 0 where
   pub none : settingsNo r ≡ 0
   pub up : (isNat (r .gpu) 0 || isNat (r .«scale_up») 0) ≡ true
-  pub levels : r .levels ≡ pos (levelsOf (lumaW r) (lumaH r))
+  pub levels : r .levels ≡ pos (autoLevels (lumaW r) (lumaH r))
 
 pub fine : (r : SuperOpts) → accepted r ≡ true → Fine r
 unfolding accepted
 fine r e =
     let a = eqb (settingsNo r) 0 in
     let b = isNat (r .gpu) 0 || isNat (r .«scale_up») 0 in
-    let l = isNat (r .levels) (levelsOf (lumaW r) (lumaH r)) in
+    let l = isNat (r .levels) (autoLevels (lumaW r) (lumaH r)) in
     let ab = and-left (a && b) l e in
     record {
       none = eqb-true (settingsNo r) 0 (and-left a b ab);
       up = and-right a b ab;
-      levels = is-nat-pos (r .levels) (levelsOf (lumaW r) (lumaH r)) (and-right (a && b) l e);
+      levels = is-nat-pos (r .levels) (autoLevels (lumaW r) (lumaH r)) (and-right (a && b) l e);
     }
 
 pub fine-accepted : (r : SuperOpts) → Fine r → accepted r ≡ true
 unfolding accepted
-fine-accepted r f = rw (f .none, f .up, f .levels) (eq-eqb (levelsOf (lumaW r) (lumaH r)) (levelsOf (lumaW r) (lumaH r)) refl)
+fine-accepted r f = rw (f .none, f .up, f .levels) (eq-eqb (autoLevels (lumaW r) (lumaH r)) (autoLevels (lumaW r) (lumaH r)) refl)
 
 -- ---- number 6
 -- `t` is what a call of `accepted` gave
@@ -116,14 +116,14 @@ levels-most r e =
     let small = side-small (r .width) (sound r (f .none) .width) in
     omega (arith, ap toNat (f .levels), levels-small mostLevels (lumaW r) (lumaW r) (lumaH r) (omega arith))
 
-pub record Within (r : SuperOpts) : Type 0 where
+pub record Bounded (r : SuperOpts) : Type 0 where
   pub pel : pelOf r ≤ 4
   pub gpu : toNat (r .gpu) ≤ 2
   pub width : lumaW r ≤ mostSide
   pub height : lumaH r ≤ mostSide
   pub levels : levelCount r ≤ mostLevels
 
-pub within : (r : SuperOpts) → accepted r ≡ true → Within r
+pub within : (r : SuperOpts) → accepted r ≡ true → Bounded r
 within r e =
     let s = sound r (fine r e .none) in
     record {
@@ -151,7 +151,7 @@ pub pos-levels : (r : SuperOpts) → accepted r ≡ true → pos (levelCount r) 
 pos-levels r e = let l = fine r e .levels in ap pos (ap toNat l) ∙ sym l
 
 -- a size of an accepted record
-pub sizes : (r : SuperOpts) (z : ℤ) (n : ℕ) → accepted r ≡ true → z ≡ pos n → answer 0 z ≡ complete (recordNo r) (pos n) (pos 0)
+pub sizes : (r : SuperOpts) (z : ℤ) (n : ℕ) → accepted r ≡ true → z ≡ pos n → answer 0 z ≡ ifDone (recordNo r) (pos n) (pos 0)
 sizes r z n e size = ap (answer 0) size ∙ given (recordNo r) (pos n) (pos 0) (record-none r e)
 
 -- ---- "An accepted record is one this check can return for some settings and size"
@@ -178,7 +178,7 @@ respelled r f = rw (up-held (isNat (r .gpu) 0) (r .«scale_up») (f .up), ← f 
 
 -- the check's own answer for the record's own settings and size
 pub returned : (r : SuperOpts) → accepted r ≡ true → checkAnswer (spelled r) (r .width) (r .height) ≡ answer 0 r
-returned r e = let f = fine r e in ap (λ (x : SuperOpts). complete (settingsNo x) x noRecord) (respelled r f) ∙ sym (given (settingsNo r) r noRecord (f .none))
+returned r e = let f = fine r e in ap (λ (x : SuperOpts). ifDone (settingsNo x) x noRecord) (respelled r f) ∙ sym (given (settingsNo r) r noRecord (f .none))
 
 up-zero : (g : Bool) (z : ℤ) → (g || isNat (cond g z (pos 0)) 0) ≡ true
 up-zero true z = refl
@@ -196,7 +196,7 @@ cond-fits : (t : Bool) (z : ℤ) → isI32 z ≡ true → isI32 (cond t z (pos 0
 cond-fits true z e = e
 cond-fits false z e = refl
 
-settled-fits : (s : Settings) (w h : ℤ) → SettingsI32 s → isI32 w ≡ true → isI32 h ≡ true → levelsOf (lumaW (settled s w h)) (lumaH (settled s w h)) ≤ mostLevels → RecordI32 (settled s w h)
+settled-fits : (s : Settings) (w h : ℤ) → SettingsI32 s → isI32 w ≡ true → isI32 h ≡ true → autoLevels (lumaW (settled s w h)) (lumaH (settled s w h)) ≤ mostLevels → RecordI32 (settled s w h)
 unfolding settled
 settled-fits s w h f fw fh few =
     record {
@@ -204,7 +204,7 @@ settled-fits s w h f fw fh few =
       gpu = int-fits (s .gpu) (pos 1) (f .gpu) refl;
       down = int-fits (s .down) (pos 4) (f .down) refl;
       up = cond-fits (isNat (intOr (s .gpu) (pos 1)) 0) (intOr (s .up) (pos 2)) (int-fits (s .up) (pos 2) (f .up) refl);
-      levels = lt-ltb (levelsOf (toNat w) (toNat h)) (2 ^ 31) (omega arith);
+      levels = lt-ltb (autoLevels (toNat w) (toNat h)) (2 ^ 31) (omega arith);
       width = fw;
       height = fh;
     }
@@ -229,5 +229,5 @@ accepted-exact r = (
       (subst RecordI32 same (settled-fits (t .settings) (t .width) (t .height) (t .settings-fit) (t .width-fits) (t .height-fits) (few s ok)), ap accepted (sym same) ∙ ok),
 )
   where
-    few : (s : SuperOpts) → accepted s ≡ true → levelsOf (lumaW s) (lumaH s) ≤ mostLevels
+    few : (s : SuperOpts) → accepted s ≡ true → autoLevels (lumaW s) (lumaH s) ≤ mostLevels
     few s e = omega (arith, ap toNat (fine s e .levels), levels-most s e)

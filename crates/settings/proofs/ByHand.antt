@@ -6,7 +6,7 @@ use lib.IntN.{pos}
 use Rattle.settings.specs.declared.super_opts.OptInt.the-variants.{Absent as NoInt}
 use Rattle.settings.specs.declared.super_opts.OptBool.the-variants.{Absent as NoBool}
 use Rattle.settings.specs.declared.super_opts.Settings.{Settings}
-use Rattle.settings.specs.Sizes.{reduced, levelsIn, levelsOf}
+use Rattle.settings.specs.Sizes.{reduced, levelsIn, autoLevels}
 use Rattle.settings.specs.Check.{settled, settingsNo, accepted}
 use Rattle.settings.specs.Word.{wordOf}
 use Rattle.settings.specs.Answers.{checkAnswer, packAnswer}
@@ -22,10 +22,10 @@ computed =
     ∷ reduced 48 2
     ∷ reduced 48 3
     ∷ reduced 48 4
-    ∷ levelsOf 64 48
-    ∷ levelsOf 3 100
-    ∷ levelsOf 4 4
-    ∷ levelsOf 16384 16384
+    ∷ autoLevels 64 48
+    ∷ autoLevels 3 100
+    ∷ autoLevels 4 4
+    ∷ autoLevels 16384 16384
     ∷ r .no
     ∷ packAnswer (r .value) .no
     ∷ packAnswer (r .value) .value

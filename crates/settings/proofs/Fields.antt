@@ -7,7 +7,7 @@ use mir.Val.{SFits}
 use Rattle.settings.specs.declared.super_opts.SuperOpts.{SuperOpts}
 use Rattle.settings.specs.declared.word.Description.{Description}
 use Rattle.settings.specs.Numbers.{toNat}
-use Rattle.settings.specs.Sizes.{levelsOf}
+use Rattle.settings.specs.Sizes.{autoLevels}
 use Rattle.settings.proofs.Levels.{levels-within}
 
 pub record FieldsFit (r : SuperOpts) : Type 0 where
@@ -31,5 +31,5 @@ pub nat-fits : (z : ℤ) → SFits w32 z → toNat z < 2 ^ 31
 nat-fits (pos n) f = f .sfits
 nat-fits (negsuc n) f = omega arith
 
-pub levels-fit : (w h : ℤ) → SFits w32 w → levelsOf (toNat w) (toNat h) < 2 ^ 31
+pub levels-fit : (w h : ℤ) → SFits w32 w → autoLevels (toNat w) (toNat h) < 2 ^ 31
 levels-fit w h f = omega (arith, nat-fits w f, levels-within (toNat w) (toNat w) (toNat h))

@@ -24,7 +24,7 @@ use Rattle.settings.specs.declared.super_opts.Sized.the-variants.{Size, 
 use Rattle.settings.specs.declared.word.Told.{Told}
 use Rattle.settings.specs.declared.word.Told.the-variants.{Tells, Refused as ReadRefused}
 use Rattle.settings.specs.Numbers.{_then_}
-use Rattle.settings.specs.Answers.{Answer, answer, complete, number, tested, checked, packed, sized, told, noRecord, noDescription}
+use Rattle.settings.specs.Answers.{Answer, answer, ifDone, number, tested, checked, packed, sized, told, noRecord, noDescription}
 
 -- ---- a refusal's number tells which refusal it is, and is not 0
 -- the refusal of a number
@@ -75,18 +75,18 @@ then-some (suc m) n h = refl
 pub number-then : (f : Refusal) (n : ℕ) → number f ≡ (number f then n)
 number-then f n = then-some (number f) n (number-not-0 f)
 
--- ---- an answer that is complete, by its number
-pub given : {A : Type 0} (n : ℕ) (a none : A) → n ≡ 0 → answer 0 a ≡ complete n a none
+-- ---- an answer by its number
+pub given : {A : Type 0} (n : ℕ) (a none : A) → n ≡ 0 → answer 0 a ≡ ifDone n a none
 given n a none e = rw e
 
-pub refused : {A : Type 0} (n : ℕ) (f : Refusal) (a none : A) → number f ≡ n → answer (number f) none ≡ complete n a none
+pub refused : {A : Type 0} (n : ℕ) (f : Refusal) (a none : A) → number f ≡ n → answer (number f) none ≡ ifDone n a none
 refused n f a none e = rw (← e, number-some f)
 
 -- the number of an answer, and the value that is given where that is 0
 pub number-of : {B : Type 0} {m n : ℕ} {a b : B} → answer m a ≡ answer n b → m ≡ n
 number-of {B} e = ap (λ (x : Answer B). x .no) e
 
-pub value-given : {B : Type 0} {n : ℕ} {a : B} (b none : B) → answer 0 a ≡ complete n b none → a ≡ b
+pub value-given : {B : Type 0} {n : ℕ} {a : B} (b none : B) → answer 0 a ≡ ifDone n b none → a ≡ b
 value-given {B} b none e = ap (λ (x : Answer B). x .value) e ∙ ap (λ (m : ℕ). cond (eqb m 0) b none) (sym (number-of e))
 
 -- ---- an answer is known by its number and value

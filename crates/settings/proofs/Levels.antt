@@ -7,7 +7,7 @@ use native.Mathlib.Nat.{pow-suc}
 use native.Mathlib.Numerals.{add-one}
 use lib.Dec.{leb}
 use borrow.Author.Tests.{le-leb, lt-leb, leb-true}
-use Rattle.settings.specs.Sizes.{reduce, reduced, levelsIn, levelsOf}
+use Rattle.settings.specs.Sizes.{reduce, reduced, levelsIn, autoLevels}
 use Rattle.settings.proofs.Tests.{and-no, cond-le}
 
 pub reduced-next : (d n : ℕ) → reduced d (n + 1) ≡ reduce (reduced d n)
@@ -35,12 +35,12 @@ enough (suc k) (suc m) w h a b = go (leb 4 w) refl (λ e. enough k m (reduce w) 
     go true e same = ap (λ (n : ℕ). cond (leb 4 w && leb 4 h) (suc n) 0) (same e)
     go false e same = rw e
 
-pub levels-more : (w h : ℕ) → 4 ≤ w → 4 ≤ h → levelsOf w h ≡ suc (levelsOf (reduce w) (reduce h))
+pub levels-more : (w h : ℕ) → 4 ≤ w → 4 ≤ h → autoLevels w h ≡ suc (autoLevels (reduce w) (reduce h))
 unfolding levelsIn
 levels-more zero h a b = absurd (omega arith)
 levels-more (suc w) h a b = first ∙ ap suc (enough w (reduce (suc w)) (reduce (suc w)) (reduce h) (omega arith) (omega arith))
   where
-    first : levelsOf (suc w) h ≡ suc (levelsIn w (reduce (suc w)) (reduce h))
+    first : autoLevels (suc w) h ≡ suc (levelsIn w (reduce (suc w)) (reduce h))
     first = rw (le-leb 4 (suc w) a, le-leb 4 h b)
 
 pub levels-within : (k w h : ℕ) → levelsIn k w h ≤ k

@@ -14,9 +14,9 @@ Promises {X} {R} {E} Post Says = (x : X) (r : R) (e : E) → Post x r e → Says
 abbrev pub OneOutcome : {X R E O : Type 0} → (X → R → E → Type 0) → (R → E → O) → Type 0
 OneOutcome {X} {R} {E} Post seen = (x : X) (r s : R) (e f : E) → Post x r e → Post x s f → seen r e ≡ seen s f
 
--- what is known by its value under f is settled by an equation for that value
-pub settled : {A B : Type 0} {f : A → B} → ((a b : A) → f a ≡ f b → a ≡ b) → {a b : A} {owed : B} → f a ≡ owed → f b ≡ owed → a ≡ b
-settled known {a} {b} p q = known a b (p ∙ sym q)
+-- what is known by its value under f is determined by an equation for that value
+pub determined : {A B : Type 0} {f : A → B} → ((a b : A) → f a ≡ f b → a ≡ b) → {a b : A} {owed : B} → f a ≡ owed → f b ≡ owed → a ≡ b
+determined known {a} {b} p q = known a b (p ∙ sym q)
 
 -- a plain value is known by itself
 pub itself : {A : Type 0} (a b : A) → a ≡ b → a ≡ b

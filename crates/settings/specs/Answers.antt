@@ -85,8 +85,8 @@ abbrev pub answer : {A : Type 0} → ℕ → A → Answer A
 answer n a = record { no = n; value = a }
 
 -- a, or `none` where the number is a refusal's
-abbrev pub complete : {A : Type 0} → ℕ → A → A → Answer A
-complete n a none = answer n (cond (eqb n 0) a none)
+abbrev pub ifDone : {A : Type 0} → ℕ → A → A → Answer A
+ifDone n a none = answer n (cond (eqb n 0) a none)
 
 -- values at the front of what is lent, the rest as it was
 abbrev pub written : {A : Type 0} → List A → List A → List A
@@ -111,7 +111,7 @@ noRecord =
 
 -- "A settings refusal gives a record of zeros"
 abbrev pub checkAnswer : Settings → ℤ → ℤ → Answer SuperOpts
-checkAnswer s w h = complete (settingsNo (settled s w h)) (settled s w h) noRecord
+checkAnswer s w h = ifDone (settingsNo (settled s w h)) (settled s w h) noRecord
 
 -- "one this check can return for some settings and size": all of them i32
 pub record Returns (r : SuperOpts) : Type 0 where
@@ -125,14 +125,14 @@ pub record Returns (r : SuperOpts) : Type 0 where
 
 -- "a packing refusal word 0"
 abbrev pub packAnswer : SuperOpts → Answer ℕ
-packAnswer r = complete (packNo r) (wordOf r) 0
+packAnswer r = ifDone (packNo r) (wordOf r) 0
 
 -- "a refused size .. zeros"
 abbrev pub heightAnswer : SuperOpts → Answer ℤ
-heightAnswer r = complete (recordNo r) (pos (superHeight r)) (pos 0)
+heightAnswer r = ifDone (recordNo r) (pos (superHeight r)) (pos 0)
 
 abbrev pub widthAnswer : SuperOpts → Answer ℤ
-widthAnswer r = complete (recordNo r) (pos (superWidth r)) (pos 0)
+widthAnswer r = ifDone (recordNo r) (pos (superWidth r)) (pos 0)
 
 -- "a refused word an empty description"
 abbrev pub noDescription : Description
@@ -151,7 +151,7 @@ noDescription =
     }
 
 abbrev pub readAnswer : ℕ → Answer Description
-readAnswer v = complete (readNo v) (describe (candidate v)) noDescription
+readAnswer v = ifDone (readNo v) (describe (candidate v)) noDescription
 
 -- ---- the enums
 abbrev pub tested : Tested → ℕ

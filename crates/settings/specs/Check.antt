@@ -13,7 +13,7 @@ use Rattle.settings.specs.declared.super_opts.SuperOpts.{SuperOpts}
 use Rattle.settings.specs.declared.super_opts.Naturals.{Naturals}
 use Rattle.settings.specs.Limits.{mostSide}
 use Rattle.settings.specs.Numbers.{isNat, toNat, isI32, refuse, _then_, total}
-use Rattle.settings.specs.Sizes.{reduce, reduced, levelsOf}
+use Rattle.settings.specs.Sizes.{reduce, reduced, autoLevels}
 
 -- ---- "Each setting is present or absent, as an i32 or a bool."
 abbrev pub intOr : OptInt → ℤ → ℤ
@@ -40,7 +40,7 @@ settled s w h =
       full = boolOr (s .full) true;
       rc = boolOr (s .rc) false;
       lean = boolOr (s .lean) false;
-      levels = pos (levelsOf (toNat w) (toNat h));
+      levels = pos (autoLevels (toNat w) (toNat h));
       width = w;
       height = h;
     }
@@ -95,7 +95,7 @@ naturalsOf r = record { pel = pelOf r; gpu = toNat (r .gpu); levels = levelCount
 -- ---- accepted records
 -- "An accepted record is one this check can return for some settings and size, levels by the rule below." That this test says so is `accepted-exact` of proofs/Accepted.antt
 unfoldable pub accepted : SuperOpts → Bool
-accepted r = eqb (settingsNo r) 0 && (isNat (r .gpu) 0 || isNat (r .«scale_up») 0) && isNat (r .levels) (levelsOf (lumaW r) (lumaH r))
+accepted r = eqb (settingsNo r) 0 && (isNat (r .gpu) 0 || isNat (r .«scale_up») 0) && isNat (r .levels) (autoLevels (lumaW r) (lumaH r))
 
 -- "a record handed in is no accepted record"
 abbrev pub recordNo : SuperOpts → ℕ

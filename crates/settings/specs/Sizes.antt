@@ -18,5 +18,5 @@ levelsIn zero w h = 0
 levelsIn (suc k) w h = let more = suc (levelsIn k (reduce w) (reduce h)) in cond (leb 4 w && leb 4 h) more 0
 
 -- each reduction takes at least 1 off a width of 4 or more, so w of them are enough
-abbrev pub levelsOf : ℕ → ℕ → ℕ
-levelsOf w h = levelsIn w w h
+abbrev pub autoLevels : ℕ → ℕ → ℕ
+autoLevels w h = levelsIn w w h

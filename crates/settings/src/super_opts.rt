@@ -6,7 +6,7 @@ ghost use Prim.Native.Nat.{_+_, _*_, _<_, _≤_, _^_, max};
 ghost use lib.IntN.{pos};
 ghost use Rattle.settings.specs.Limits.{mostSide, mostLevels};
 ghost use Rattle.settings.specs.Numbers.{isNat, toNat, bit};
-ghost use Rattle.settings.specs.Sizes.{reduced, levelsOf};
+ghost use Rattle.settings.specs.Sizes.{reduced, autoLevels};
 ghost use Rattle.settings.specs.Check.{intOr, boolOr, upBy, settled, isPel, isGpu, noFinest, badLean, isSide, settingsNo, naturalsOf, accepted, upward, raisedToEven, fullHeight, packedHeight};
 ghost use Rattle.settings.specs.Word.{wordOf};
 ghost use Rattle.settings.specs.Answers.{tested, checked, checkAnswer, packed, packAnswer, sized, heightAnswer, widthAnswer};
@@ -302,7 +302,7 @@ fn joined(height: u64, width: u64, pel: u64, levels: u64, gpu: u64, flags: u64) 
 
 // On i32 sides, 0 for what is below 0.
 pub fn levels_of(width: i32, height: i32) -> i32
-    ensures { λ r. ⌜ r ≡ pos (levelsOf (toNat width) (toNat height)) ⌝ }
+    ensures { λ r. ⌜ r ≡ pos (autoLevels (toNat width) (toNat height)) ⌝ }
 {
     auto_levels(natural(width), natural(height)) as i32
 }
@@ -318,7 +318,7 @@ pub fn reduce_dim(dim: u32, n: u32) -> u32
 }
 
 fn auto_levels(width: u32, height: u32) -> u32
-    ensures { λ r. ⌜ r ≡ levelsOf width height ⌝ }
+    ensures { λ r. ⌜ r ≡ autoLevels width height ⌝ }
 {
     let mut i = 0;
     loop {

@@ -27,11 +27,11 @@ plane-requires-2 c κs = search needs
 -- what is read of the left plane ends in the frame
 left-inside : (c : tie.After-plane2) →
     let a = c .before .before .before .before .before .before .before .before .before .args in
-    c .plane2 .result + a .q .across + a .q .below * a .i .pitch + (a .i .height - a .q .below) * a .i .pitch ≤ length (now (a .frame))
+    c .plane2 .result + a .pair .across + a .pair .below * a .i .pitch + (a .i .height - a .pair .below) * a .i .pitch ≤ length (now (a .frame))
 left-inside c =
     let entered = c .before .before .before .before .before .before .before .before .before in
     let a = entered .args in
-    quarter-fits 16 (planeAt (a .i) (a .q .target)) _ (planeAt (a .i) (a .q .right)) (entered .pre .1) (entered .pre .0) (le-refl 16) refl (c .plane2 .ensures) refl .left
+    quarter-fits 16 (planeAt (a .i) (a .pair .target)) _ (planeAt (a .i) (a .pair .right)) (entered .pre .1) (entered .pre .0) (le-refl 16) refl (c .plane2 .ensures) refl .left
 
 add-left : tie.Need-add-left
 add-left c = omega (arith, left-inside (c .before))
@@ -70,7 +70,7 @@ returns c =
     let at-plane = at-plane2 .before in
     let entered = at-plane .before .before .before .before .before .before .before .before in
     let a = entered .args in
-    at-pair .pair .ensures ∙ quarter-made (a .i) (a .q) _ _ _ (now (a .frame) ++ now (a .spill)) (at-plane .plane .ensures) (at-plane2 .plane2 .ensures) (at-plane3 .plane3 .ensures)
+    at-pair .pair .ensures ∙ quarter-made (a .i) (a .pair) _ _ _ (now (a .frame) ++ now (a .spill)) (at-plane .plane .ensures) (at-plane2 .plane2 .ensures) (at-plane3 .plane3 .ensures)
 
 pub quarter-spec : {M : Type 1} → statement M
 quarter-spec =

@@ -22,11 +22,11 @@ abbrev μ-loop : tie.MeasureT-loop
 loop-holds : tie.Need-loop-holds Inv-loop μ-loop
 loop-holds c = passed-none
 
-mul-q : tie.Need-mul-q Inv-loop μ-loop
-mul-q c = omega arith
+mul-pair : tie.Need-mul-pair Inv-loop μ-loop
+mul-pair c = omega arith
 
-array-copy-out-q : tie.Need-array-copy-out-q Inv-loop μ-loop
-array-copy-out-q c = omega arith
+array-copy-out-pair : tie.Need-array-copy-out-pair Inv-loop μ-loop
+array-copy-out-pair c = omega arith
 
 quarter-requires : tie.Need-quarter-requires Inv-loop μ-loop
 quarter-requires c κs =
@@ -71,8 +71,8 @@ quarters-spec =
     Inv-loop
     μ-loop
     loop-holds
-    mul-q
-    array-copy-out-q
+    mul-pair
+    array-copy-out-pair
     quarter-requires
     add-k
     loop-less

@@ -4,7 +4,6 @@ use mathlib.Core.List.{_++_}
 use Prim.Native.Nat.{ℕ, _+_, _-_}
 use native.Mathlib.Omega.{arith}
 use denote.Ref.{now}
-use borrow.Author.Needs.{needs}
 use Rattle.builder.specs.Refining.{pairs, quarter, foldPairs, refine}
 use Rattle.builder.proofs.Refined.{halves-two, halves-four, planes-kept, planes-fewer, planes-at, pel-four}
 use Rattle.builder.proofs.refining.refine.Statement.{statement}

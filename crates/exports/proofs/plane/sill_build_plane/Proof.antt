@@ -5,7 +5,7 @@ use denote.Ref.{now}
 use borrow.Author.Needs.{needs}
 use Rattle.settings.specs.Answers.{answer}
 use Rattle.layouts.specs.declared.layout.Layout.{Layout}
-use Rattle.planes.specs.Answers.{planeNo, buildAnswer, lentAfter}
+use Rattle.planes.specs.Build.{planeNo, buildAnswer, lentAfter}
 use Rattle.exports.proofs.plane.sill_build_plane.Statement.{statement}
 use Rattle.exports.proofs.plane.sill_build_plane.Tie as tie
 

@@ -8,7 +8,7 @@ use Rattle.settings.specs.Numbers.{refuse, _then_}
 use Rattle.settings.specs.Answers.{tested}
 use Rattle.settings.proofs.Tests.{or-false-right}
 use Rattle.layouts.specs.Layout.{widthAt}
-use Rattle.layouts.specs.Numbers.{badPitch, layoutNo, lentNo, buildNo}
+use Rattle.layouts.specs.Refusals.{badPitch, layoutNo, lentNo, buildNo}
 use Rattle.layouts.proofs.Layouts.{then-kept}
 use borrow.Author.Needs.{needs}
 use Rattle.layouts.proofs.lent.build_tested.Statement.{statement}

@@ -3,7 +3,7 @@ use mathlib.Core.Path.{ap, _∙_}
 use native.Mathlib.Omega.{arith}
 use Rattle.settings.specs.declared.super_opts.Naturals.{Naturals}
 use Rattle.layouts.specs.Layout.{offsetAt}
-use Rattle.layouts.specs.Numbers.{lentNo}
+use Rattle.layouts.specs.Refusals.{lentNo}
 use Rattle.layouts.proofs.Layouts.{allowed, levels-le}
 use borrow.Author.Needs.{needs}
 use Rattle.layouts.proofs.lent.lent_tested.Statement.{statement}

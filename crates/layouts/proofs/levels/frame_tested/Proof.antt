@@ -6,7 +6,7 @@ use borrow.Author.Needs.{needs}
 use Rattle.settings.specs.Numbers.{refuse, _then_}
 use Rattle.settings.specs.Answers.{Answer}
 use Rattle.layouts.specs.Layout.{writtenEnd}
-use Rattle.layouts.specs.Numbers.{layoutNo, frameNo}
+use Rattle.layouts.specs.Refusals.{layoutNo, frameNo}
 use Rattle.layouts.specs.Answers.{ended}
 use Rattle.layouts.proofs.Layouts.{end-given, then-kept}
 use Rattle.layouts.proofs.levels.frame_tested.Statement.{statement}

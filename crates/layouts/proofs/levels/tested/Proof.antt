@@ -1,5 +1,5 @@
 -- `tested` meets its contract. Assumes nothing.
-use Rattle.layouts.specs.Numbers.{layoutNo}
+use Rattle.layouts.specs.Refusals.{layoutNo}
 use Rattle.layouts.proofs.levels.tested.Statement.{statement}
 use Rattle.layouts.proofs.levels.tested.Tie as tie
 

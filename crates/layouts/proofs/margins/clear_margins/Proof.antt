@@ -7,7 +7,7 @@ use borrow.Author.Needs.{needs}
 use Rattle.settings.specs.Answers.{answer, tested}
 use Rattle.settings.proofs.Known.{given, refused}
 use Rattle.layouts.specs.Margins.{cleared}
-use Rattle.layouts.specs.Numbers.{frameNo}
+use Rattle.layouts.specs.Refusals.{frameNo}
 use Rattle.layouts.proofs.Layouts.{framed}
 use Rattle.layouts.proofs.margins.clear_margins.Statement.{statement}
 use Rattle.layouts.proofs.margins.clear_margins.Tie as tie

@@ -12,7 +12,7 @@ use denote.Ref.{now}
 use borrow.Author.Needs.{needs}
 use Rattle.layouts.specs.Storing.{partAt}
 use Rattle.layouts.specs.Layout.{widthAt, rowStart}
-use Rattle.layouts.specs.Numbers.{rowNo}
+use Rattle.layouts.specs.Refusals.{rowNo}
 use Rattle.layouts.specs.Answers.{rowPart}
 use Rattle.layouts.proofs.Choices.{cond-yes, cond-no}
 use Rattle.layouts.proofs.Layouts.{Rowed, rowed, row-ends}

@@ -5,7 +5,7 @@ use borrow.Author.Needs.{needs}
 use Rattle.settings.specs.Answers.{answer, tested}
 use Rattle.settings.proofs.Known.{given, refused}
 use Rattle.layouts.specs.declared.rows.Run.{Run}
-use Rattle.layouts.specs.Numbers.{rowNo}
+use Rattle.layouts.specs.Refusals.{rowNo}
 use Rattle.layouts.specs.Answers.{runOf, noRun}
 use Rattle.layouts.proofs.Layouts.{rowed}
 use Rattle.layouts.proofs.rows.row_place.Statement.{statement}

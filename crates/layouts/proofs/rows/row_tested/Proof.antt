@@ -4,7 +4,7 @@ use Prim.Native.Nat.{_-_}
 use borrow.Author.Needs.{needs}
 use Rattle.settings.specs.Numbers.{refuse, _then_}
 use Rattle.settings.specs.Answers.{tested}
-use Rattle.layouts.specs.Numbers.{frameNo, noRow, rowNo}
+use Rattle.layouts.specs.Refusals.{frameNo, noRow, rowNo}
 use Rattle.layouts.proofs.Layouts.{then-kept}
 use Rattle.layouts.proofs.rows.row_tested.Statement.{statement}
 use Rattle.layouts.proofs.rows.row_tested.Tie as tie

@@ -7,8 +7,7 @@ use denote.Ref.{now}
 use borrow.Author.Needs.{needs}
 use Rattle.settings.specs.Answers.{answer, tested}
 use Rattle.settings.proofs.Known.{given, refused}
-use Rattle.planes.specs.Build.{builtFrame}
-use Rattle.planes.specs.Answers.{planeNo, lentAfter}
+use Rattle.planes.specs.Build.{builtFrame, planeNo, lentAfter}
 use Rattle.planes.proofs.Whole.{ready}
 use Rattle.planes.proofs.build.build_plane.Statement.{statement}
 use Rattle.planes.proofs.build.build_plane.Tie as tie

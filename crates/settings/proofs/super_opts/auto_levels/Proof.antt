@@ -6,13 +6,13 @@ use mathlib.Core.Logic.{⊎-elim}
 use Prim.Native.Nat.{ℕ, _+_, _≤_}
 use native.Mathlib.Omega.{arith}
 use borrow.Author.Tests.{ltb-true, ltb-false}
-use Rattle.settings.specs.Sizes.{reduce, reduced, levelsOf}
+use Rattle.settings.specs.Sizes.{reduce, reduced, autoLevels}
 use Rattle.settings.proofs.Tests.{or-cases, or-false-left, or-false-right}
 use Rattle.settings.proofs.Levels.{reduced-next, levels-narrow, levels-low, levels-more}
 use Rattle.settings.proofs.super_opts.auto_levels.Statement.{statement}
 use Rattle.settings.proofs.super_opts.auto_levels.Tie as tie
 
-stops : {h w H W i n : ℕ} → h ≡ H → w ≡ W → (ltb h 4 || ltb w 4) ≡ true → i + levelsOf W H ≡ n → i ≡ n
+stops : {h w H W i n : ℕ} → h ≡ H → w ≡ W → (ltb h 4 || ltb w 4) ≡ true → i + autoLevels W H ≡ n → i ≡ n
 stops {h} {w} {H} {W} p q t e = ⊎-elim (λ a. omega (arith, levels-low W W H (omega (arith, ltb-true h 4 a)))) (λ a. omega (arith, levels-narrow W W H (omega (arith, ltb-true w 4 a)))) (or-cases (ltb h 4) (ltb w 4) t)
 
 wide : {h w H W : ℕ} → h ≡ H → w ≡ W → (ltb h 4 || ltb w 4) ≡ false → 4 ≤ W
@@ -21,11 +21,11 @@ wide {h} {w} p q t = omega (arith, ltb-false w 4 (or-false-right (ltb h 4) (ltb 
 tall : {h w H W : ℕ} → h ≡ H → w ≡ W → (ltb h 4 || ltb w 4) ≡ false → 4 ≤ H
 tall {h} {w} p q t = omega (arith, ltb-false h 4 (or-false-left (ltb h 4) (ltb w 4) t))
 
-goes : {h w H W n : ℕ} (i : ℕ) → h ≡ H → w ≡ W → (ltb h 4 || ltb w 4) ≡ false → i + levelsOf W H ≡ n → i + 1 + levelsOf (reduce W) (reduce H) ≡ n
+goes : {h w H W n : ℕ} (i : ℕ) → h ≡ H → w ≡ W → (ltb h 4 || ltb w 4) ≡ false → i + autoLevels W H ≡ n → i + 1 + autoLevels (reduce W) (reduce H) ≡ n
 goes {h} {w} {H} {W} i p q t e = omega (arith, levels-more W H (wide p q t) (tall p q t))
 
 abbrev Inv-loop : tie.InvT-loop
-Inv-loop width height i₀ i = (i + levelsOf (reduced width i) (reduced height i) ≡ levelsOf width height) × (i + reduced width i ≤ width)
+Inv-loop width height i₀ i = (i + autoLevels (reduced width i) (reduced height i) ≡ autoLevels width height) × (i + reduced width i ≤ width)
 
 abbrev μ-loop : tie.MeasureT-loop
 μ-loop width height i₀ i = reduced width i

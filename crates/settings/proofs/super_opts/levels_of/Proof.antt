@@ -6,16 +6,16 @@ use mir.Syntax.{w32}
 use mir.Facts.{toZ-pos}
 use native.Mathlib.Omega.{arith}
 use Rattle.settings.specs.Numbers.{toNat}
-use Rattle.settings.specs.Sizes.{levelsOf}
+use Rattle.settings.specs.Sizes.{autoLevels}
 use Rattle.settings.proofs.Integers.{same}
 use Rattle.settings.proofs.Fields.{levels-fit}
 use Rattle.settings.proofs.super_opts.levels_of.Statement.{statement}
 use Rattle.settings.proofs.super_opts.levels_of.Tie as tie
 
-counted : (c : tie.After-auto-levels) → c .auto-levels .result ≡ levelsOf (toNat (c .before .before .before .args .width)) (toNat (c .before .before .before .args .height))
+counted : (c : tie.After-auto-levels) → c .auto-levels .result ≡ autoLevels (toNat (c .before .before .before .args .width)) (toNat (c .before .before .before .args .height))
 counted c =
     let a = c .before .before .before in
-    c .auto-levels .ensures ∙ ap₂ levelsOf (c .before .before .natural .ensures ∙ ap toNat (same (a .args .width) (a .fits .width))) (c .before .natural2 .ensures ∙ ap toNat (same (a .args .height) (a .fits .height)))
+    c .auto-levels .ensures ∙ ap₂ autoLevels (c .before .before .natural .ensures ∙ ap toNat (same (a .args .width) (a .fits .width))) (c .before .natural2 .ensures ∙ ap toNat (same (a .args .height) (a .fits .height)))
 
 small : (c : tie.After-auto-levels) → c .auto-levels .result < 2 ^ 31
 small c = let a = c .before .before .before in omega (arith, counted c, levels-fit (a .args .width) (a .args .height) (a .fits .width))

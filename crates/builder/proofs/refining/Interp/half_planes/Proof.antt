@@ -39,7 +39,7 @@ returns c =
     let at-enum-told = at-mean-planes .before .before .before .before in
     let entered = at-enum-told .before .before .before .before .before in
     let a = entered .args in
-    at-mean-planes .mean-planes .ensures ∙ ap (λ (u : Upscale). halfPlanes u (a .self) (a .a) (a .b) (a .d) (now (a .frame) ++ now (a .spill))) (sym (at-enum-told .enum-told .given .1))
+    at-mean-planes .mean-planes .ensures ∙ ap (λ (u : Upscale). halfPlanes u (a .self) (a .horizontal) (a .vertical) (a .diagonal) (now (a .frame) ++ now (a .spill))) (sym (at-enum-told .enum-told .given .1))
 
 same-length-4 : tie.Need-same-length-4
 same-length-4 c = c .before .before .before .before .kernel-planes .kept .1 .1 .0
@@ -58,8 +58,8 @@ returns-2 c =
     let S = now (a .spill) in
     let told = at-upscale .upscale .given in
     ap (λ (x : List ℕ). x ++ S) (at-kernel-planes .kernel-planes .ensures)
-    ∙ kernel-inside (told .0 .0) (length F) (length (now (a .scratch))) (a .self) (a .a) (a .b) (a .d) (entered .pre .0) (entered .pre .1) .aside F S refl
-    ∙ ap (λ (u : Upscale). halfPlanes u (a .self) (a .a) (a .b) (a .d) (F ++ S)) (sym (told .1))
+    ∙ kernel-inside (told .0 .0) (length F) (length (now (a .scratch))) (a .self) (a .horizontal) (a .vertical) (a .diagonal) (entered .pre .0) (entered .pre .1) .aside F S refl
+    ∙ ap (λ (u : Upscale). halfPlanes u (a .self) (a .horizontal) (a .vertical) (a .diagonal) (F ++ S)) (sym (told .1))
 
 pub half-planes-spec : {M : Type 1} → statement M
 half-planes-spec =

@@ -22,7 +22,7 @@ horizontal-requires c κs =
     let at-plane = c .before .before .before .before in
     let entered = at-plane .before .before .before in
     let a = entered .args in
-    horizontal-fits (entered .pre .1) (a .a) _ 0 0 (omega (arith, entered .pre .0 .across)) (at-plane .plane .ensures) (omega arith) (omega arith)
+    horizontal-fits (entered .pre .1) (a .horizontal) _ 0 0 (omega (arith, entered .pre .0 .across)) (at-plane .plane .ensures) (omega arith) (omega arith)
 
 vertical-requires : tie.Need-vertical-requires
 vertical-requires c κs =
@@ -30,7 +30,7 @@ vertical-requires c κs =
     let at-plane2 = at-horizontal .before .before .before .before in
     let entered = at-plane2 .before .before .before .before in
     let a = entered .args in
-    vertical-fits (planes-kept (entered .pre .1) (at-horizontal .horizontal .kept .1 .1 .0) (at-horizontal .horizontal .kept .1 .1 .1 .0)) (a .b) _ (omega (arith, entered .pre .0 .below)) (omega (arith, entered .pre .0 .some)) (at-plane2 .plane2 .ensures)
+    vertical-fits (planes-kept (entered .pre .1) (at-horizontal .horizontal .kept .1 .1 .0) (at-horizontal .horizontal .kept .1 .1 .1 .0)) (a .vertical) _ (omega (arith, entered .pre .0 .below)) (omega (arith, entered .pre .0 .some)) (at-plane2 .plane2 .ensures)
 
 horizontal-requires-2 : tie.Need-horizontal-requires-2
 horizontal-requires-2 c κs =
@@ -40,7 +40,7 @@ horizontal-requires-2 c κs =
     let at-plane2 = at-plane3 .before in
     let entered = at-plane2 .before .before .before .before in
     let a = entered .args in
-    horizontal-fits (planes-kept (planes-kept (entered .pre .1) (at-horizontal .horizontal .kept .1 .1 .0) (at-horizontal .horizontal .kept .1 .1 .1 .0)) (at-vertical .vertical .kept .1 .1 .0) (at-vertical .vertical .kept .1 .1 .1 .0)) (a .d) _ (a .b) _ (omega arith) (at-plane3 .plane3 .ensures) (omega (arith, entered .pre .0 .below)) (at-plane2 .plane2 .ensures)
+    horizontal-fits (planes-kept (planes-kept (entered .pre .1) (at-horizontal .horizontal .kept .1 .1 .0) (at-horizontal .horizontal .kept .1 .1 .1 .0)) (at-vertical .vertical .kept .1 .1 .0) (at-vertical .vertical .kept .1 .1 .1 .0)) (a .diagonal) _ (a .vertical) _ (omega arith) (at-plane3 .plane3 .ensures) (omega (arith, entered .pre .0 .below)) (at-plane2 .plane2 .ensures)
 
 same-length : tie.Need-same-length
 same-length c =
@@ -66,7 +66,7 @@ returns c =
     let at-plane = at-plane2 .before in
     let entered = at-plane .before .before .before in
     let a = entered .args in
-    kernel-stages (a .kernel) (a .self) (a .a) (a .b) (a .d) _ _ _ (at-plane .plane .ensures) (at-plane2 .plane2 .ensures) (at-plane3 .plane3 .ensures) (now (a .frame)) _ _ _ (at-horizontal .horizontal .ensures) (at-vertical .vertical .ensures) (at-horizontal2 .horizontal2 .ensures)
+    kernel-stages (a .kernel) (a .self) (a .horizontal) (a .vertical) (a .diagonal) _ _ _ (at-plane .plane .ensures) (at-plane2 .plane2 .ensures) (at-plane3 .plane3 .ensures) (now (a .frame)) _ _ _ (at-horizontal .horizontal .ensures) (at-vertical .vertical .ensures) (at-horizontal2 .horizontal2 .ensures)
 
 pub kernel-planes-spec : {M : Type 1} → statement M
 kernel-planes-spec =

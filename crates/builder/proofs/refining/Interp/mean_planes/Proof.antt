@@ -17,7 +17,7 @@ pair-requires : tie.Need-pair-requires
 pair-requires c κs =
     let at-plane = c .before .before .before in
     let entered = at-plane .before .before .before .before in
-    pair-fits (entered .pre .1) (entered .args .a) _ 1 _ (omega (arith, entered .pre .0 .across)) (omega (arith, entered .pre .0 .some)) (at-plane .plane .ensures) (omega arith) (entered .pre .2)
+    pair-fits (entered .pre .1) (entered .args .horizontal) _ 1 _ (omega (arith, entered .pre .0 .across)) (omega (arith, entered .pre .0 .some)) (at-plane .plane .ensures) (omega arith) (entered .pre .2)
 
 pair-under-row-requires : tie.Need-pair-under-row-requires
 pair-under-row-requires c κs =
@@ -57,7 +57,7 @@ returns c =
     let at-plane = at-pair .before .before .before .before in
     let entered = at-plane .before .before .before .before in
     let a = entered .args in
-    mean-stages (a .self) (a .a) (a .b) (a .d) _ (at-plane .plane .ensures) (now (a .frame) ++ now (a .spill)) _ _ _ (at-pair .pair .ensures) (at-pair-under-row .pair-under-row .ensures) (at-pair-under-row2 .pair-under-row2 .ensures)
+    mean-stages (a .self) (a .horizontal) (a .vertical) (a .diagonal) _ (at-plane .plane .ensures) (now (a .frame) ++ now (a .spill)) _ _ _ (at-pair .pair .ensures) (at-pair-under-row .pair-under-row .ensures) (at-pair-under-row2 .pair-under-row2 .ensures)
 
 pub mean-planes-spec : {M : Type 1} → statement M
 mean-planes-spec =

@@ -5,7 +5,7 @@ use Rattle.settings.specs.Answers.{tested}
 use Rattle.settings.proofs.Known.{refused}
 use Rattle.filters.specs.Row.{tab}
 use Rattle.layouts.specs.Layout.{levelsOf, regionOr, noRegion}
-use Rattle.layouts.specs.Numbers.{layoutNo}
+use Rattle.layouts.specs.Refusals.{layoutNo}
 use Rattle.layouts.specs.Answers.{columns}
 use Rattle.layouts.proofs.layout.Layout.level_regions.Statement.{statement}
 use Rattle.layouts.proofs.layout.Layout.level_regions.Tie as tie

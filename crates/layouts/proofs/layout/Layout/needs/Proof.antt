@@ -5,7 +5,7 @@ use borrow.Author.Needs.{needs}
 use Rattle.settings.specs.Answers.{answer, tested}
 use Rattle.settings.proofs.Known.{given, refused}
 use Rattle.layouts.specs.declared.layout.Needs.{Needs}
-use Rattle.layouts.specs.Numbers.{layoutNo}
+use Rattle.layouts.specs.Refusals.{layoutNo}
 use Rattle.layouts.specs.Answers.{needsOf, noNeeds}
 use Rattle.layouts.proofs.layout.Layout.needs.Statement.{statement}
 use Rattle.layouts.proofs.layout.Layout.needs.Tie as tie

@@ -12,7 +12,7 @@ use Rattle.filters.specs.Row.{tab}
 use Rattle.filters.proofs.Filling.{Filled, filled-none, filled-more, filled-whole}
 use Rattle.layouts.specs.declared.layout.Region.{Region}
 use Rattle.layouts.specs.Layout.{levelsOf, regionOr, noRegion}
-use Rattle.layouts.specs.Numbers.{layoutNo}
+use Rattle.layouts.specs.Refusals.{layoutNo}
 use Rattle.layouts.specs.Answers.{Columns, columns}
 use Rattle.layouts.proofs.Loops.{next-less}
 use Rattle.layouts.proofs.layout.Layout.regions.Statement.{statement}

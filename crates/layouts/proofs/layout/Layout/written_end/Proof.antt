@@ -7,7 +7,7 @@ use Rattle.settings.specs.Answers.{answer, tested}
 use Rattle.settings.proofs.Accepted.{within}
 use Rattle.settings.proofs.Known.{given, refused}
 use Rattle.layouts.specs.Layout.{offsetAt, writtenEnd}
-use Rattle.layouts.specs.Numbers.{layoutNo}
+use Rattle.layouts.specs.Refusals.{layoutNo}
 use Rattle.layouts.proofs.Layouts.{allowed}
 use Rattle.layouts.proofs.layout.Layout.written_end.Statement.{statement}
 use Rattle.layouts.proofs.layout.Layout.written_end.Tie as tie

@@ -2,7 +2,7 @@
 use lib.Dec.{lit<}
 use borrow.Author.Needs.{needs}
 use Rattle.settings.specs.Numbers.{toNat}
-use Rattle.settings.specs.Sizes.{levelsOf}
+use Rattle.settings.specs.Sizes.{autoLevels}
 use Rattle.settings.specs.Check.{accepted}
 use Rattle.settings.proofs.Fields.{FieldsFit, levels-fit}
 use Rattle.settings.proofs.Integers.{same, is-by-bits}
@@ -29,7 +29,7 @@ returns c =
     let r = fine .before .before .args .self in
     let f = fields (l .before .before .before .before .before) in
     rw (fine .is-fine .ensures, fine .before .tested .ensures, is-by-bits (r .gpu) 0 (f .gpu) (lit< tt), is-by-bits (r .«scale_up») 0 (f .up) (lit< tt), l .levels-of .ensures, same (r .width) (f .width), same (r .height) (f .height))
-    (rw (is-by-bits (r .levels) (levelsOf (toNat (r .width)) (toNat (r .height))) (f .levels) (levels-fit (r .width) (r .height) (f .width))))
+    (rw (is-by-bits (r .levels) (autoLevels (toNat (r .width)) (toNat (r .height))) (f .levels) (levels-fit (r .width) (r .height) (f .width))))
 
 pub accepted-spec : {M : Type 1} → statement M
 accepted-spec = tie.close (tie.spec tested-requires is-fine-requires levels-of-requires returns)

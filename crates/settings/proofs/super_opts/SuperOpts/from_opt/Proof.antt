@@ -3,7 +3,7 @@ use mathlib.Core.Path.{_≡_, sym, ap, _∙_}
 use borrow.Author.Needs.{needs}
 use Rattle.settings.specs.declared.super_opts.SuperOpts.{SuperOpts}
 use Rattle.settings.specs.Check.{settled, settingsNo}
-use Rattle.settings.specs.Answers.{tested, complete, noRecord}
+use Rattle.settings.specs.Answers.{tested, ifDone, noRecord}
 use Rattle.settings.proofs.Integers.{same}
 use Rattle.settings.proofs.Known.{given, refused}
 use Rattle.settings.proofs.super_opts.SuperOpts.from_opt.Statement.{statement}
@@ -28,13 +28,13 @@ returns : tie.Need-returns
 returns c =
     let s = c .before .before .before in
     let r = s .settled .result in
-    given (settingsNo r) r noRecord (sym (c .before .before .tested .ensures) ∙ ap tested (c .enum-told .given .1)) ∙ ap (λ (x : SuperOpts). complete (settingsNo x) x noRecord) (settles s)
+    given (settingsNo r) r noRecord (sym (c .before .before .tested .ensures) ∙ ap tested (c .enum-told .given .1)) ∙ ap (λ (x : SuperOpts). ifDone (settingsNo x) x noRecord) (settles s)
 
 returns-2 : tie.Need-returns-2
 returns-2 c =
     let s = c .before .before .before .before in
     let r = s .settled .result in
-    refused (settingsNo r) (c .before .f .given .0 .0) r noRecord (sym (ap tested (c .before .f .given .1)) ∙ c .before .before .before .tested .ensures) ∙ ap (λ (x : SuperOpts). complete (settingsNo x) x noRecord) (settles s)
+    refused (settingsNo r) (c .before .f .given .0 .0) r noRecord (sym (ap tested (c .before .f .given .1)) ∙ c .before .before .before .tested .ensures) ∙ ap (λ (x : SuperOpts). ifDone (settingsNo x) x noRecord) (settles s)
 
 pub from-opt-spec : {M : Type 1} → statement M
 from-opt-spec =
