@@ -98,8 +98,8 @@ flat x e =
       «x_shift» = 0;
       «y_shift» = 0;
       pitch = lumaW x + 16;
-      sp = lumaW x;
-      src = replicate (lumaW x * lumaH x) 255;
+      «src_pitch» = lumaW x;
+      plane = replicate (lumaW x * lumaH x) 255;
       frame = replicate e 0;
     }
 

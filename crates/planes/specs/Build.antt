@@ -73,8 +73,8 @@ buildAnswer n q src sp f = ifDone n (builtFrame q src sp f) f
 abbrev pub lentAfter : ℕ → List ℕ → Answer (List ℕ)
 lentAfter n lent = ifDone n (replicate (length lent) 0) lent
 
--- what a build of number no leaves in the frame, in spill and in scratch
+-- what a build of number k leaves in the frame, in spill and in scratch
 abbrev pub BuildLeaves : Layout → List ℕ → ℕ → List ℕ → List ℕ → List ℕ → ℕ → List ℕ → List ℕ → List ℕ → Type 0
-BuildLeaves q src sp frame spill scratch no frame' spill' scratch' =
+BuildLeaves q src sp frame spill scratch k frame' spill' scratch' =
     let n = planeNo q src sp frame spill scratch in
-    (answer no frame' ≡ buildAnswer n q src sp frame) × (answer no spill' ≡ lentAfter n spill) × (answer no scratch' ≡ lentAfter n scratch)
+    (answer k frame' ≡ buildAnswer n q src sp frame) × (answer k spill' ≡ lentAfter n spill) × (answer k scratch' ≡ lentAfter n scratch)
