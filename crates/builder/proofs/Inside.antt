@@ -1,4 +1,4 @@
--- Stages that stay inside the frame: a list that follows it isn't seen and stays. Over the walk, with the frame beside the frame and that list. Assumes nothing.
+-- Stages that stay inside the frame: a list that follows it isn't seen, and stays. The two canvases of the walk are the frame, and the frame with that list after it. Assumes nothing.
 use mathlib.Core.Path.{_≡_, refl, sym, ap, _∙_}
 use mathlib.Core.List.{List, _++_}
 use Prim.Native.Nat.{ℕ, _+_, _≤_}
@@ -51,7 +51,7 @@ inside-by each = record { aside = λ c S e. each S .each c (c ++ S) (record { lo
 
 -- ---- the stages
 pub copy-inside : (len s t n : ℕ) → s + n ≤ len → t + n ≤ len → Inside len (copyRun s t n)
-copy-inside len s t n from to = inside-by (λ S. let A = beside-allows len S in copy-kept same-bytes (beside len S) s t n (A .sees s n from) (A .takes t n to))
+copy-inside len s t n from to = inside-by (λ S. let A = beside-allows len S in copy-kept (beside len S) s t n (A .sees s n from) (A .takes t n to))
 
 pub means-inside : (len t l r n : ℕ) → l + n ≤ len → r + n ≤ len → t + n ≤ len → Inside len (pairRun t l r n)
 means-inside len t l r n left right to = inside-by (λ S. let A = beside-allows len S in pair-run-kept same-bytes (beside len S) t l r n (A .sees l n left) (A .sees r n right) (A .takes t n to))

@@ -1,5 +1,5 @@
--- One walk through the stages of a build: a relation of two canvases that stores of related rows keep is kept by every stage. Whatever is proved stage by stage is an instance of it. Assumes nothing.
--- First what holds of any relation: stages one after the other, loops, choices, tables. Then a notion, that says which runs may be read and stored, and what each stage needs of it: a run that is stored; later levels; the planes of level 0.
+-- One walk through the stages of a build: a relation of two canvases that stores of related rows keep is kept by every stage, so that no other law has to walk through them. Assumes nothing.
+-- First what holds of any relation: stages one after the other, loops, choices, tables. Then a notion, that says which runs may be read and stored, and what each stage needs of it: a run that is stored, and rows; later levels; the planes of level 0.
 use mathlib.Core.Path.{_≡_, refl, sym, _∙_}
 use mathlib.Core.Bool.{Bool, true, false, cond}
 use mathlib.Core.List.{List, [], _∷_}
@@ -11,7 +11,6 @@ use Rattle.filters.specs.declared.halving.ReduceFilter.{ReduceFilter}
 use Rattle.filters.specs.declared.halving.ReduceFilter.the-variants.{Cubic}
 use Rattle.filters.specs.declared.half_pel.HalfPel.{HalfPel}
 use Rattle.filters.specs.declared.half_pel.Upscale.{Upscale}
-use Rattle.filters.specs.Halve.{horizontalRow}
 use Rattle.filters.proofs.Lengths.{means-length, horizontal-length, half-horizontal-length, half-vertical-length}
 use Rattle.layouts.specs.declared.layout.Region.{Region}
 use Rattle.layouts.specs.Storing.{put, steps}
@@ -71,6 +70,10 @@ Rows Ok h at step n = (y : ℕ) → y < h → Ok (at + y * step) n
 abbrev pub LevelReads : (ℕ → ℕ → Type 0) → ReduceFilter → ℕ → ℕ → ℕ → Region → Type 0
 LevelReads Ok f whole base sp t = (y : ℕ) → y < t .height → LineReads Ok f whole (2 * t .width) (t .height) base sp y
 
+-- lines that close up to t; line 0 stays where it is
+abbrev pub CloseNeed : {E : ℕ → ℕ → Type 0} → Notion E → ℕ → ℕ → ℕ → Type 0
+CloseNeed N t p h = (y : ℕ) → 1 ≤ y → y < h → N .Sees (t + y * (2 * p)) p × N .Takes (t + y * p) p
+
 -- a plane at t from the rows of one at s; and a pair
 pub record OneNeed {E : ℕ → ℕ → Type 0} (N : Notion E) (i : Interp) (rows t s : ℕ) : Type 0 where
   pub target : Rows (N .Takes) (i .height) t (i .pitch) (i .width)
@@ -87,15 +90,20 @@ pub record UnderNeed {E : ℕ → ℕ → Type 0} (N : Notion E) (i : Interp) (t
   pub from : N .Sees s (i .width)
   pub to : N .Takes t (i .width)
 
-module _ {E : ℕ → ℕ → Type 0} (B : Bytes E) (N : Notion E) where
+module _ {E : ℕ → ℕ → Type 0} (N : Notion E) where
   -- ---- a run that is stored
   pub store : (at n : ℕ) (run run' : List ℕ → List ℕ) → N .Takes at n → ((c : List ℕ) → length (run c) ≡ n) → ((c : List ℕ) → length (run' c) ≡ n) → ((c d : List ℕ) → N .R c d → Rel E (run c) (run' d)) → Respects (N .R) (λ c. put c at (run c)) (λ c. put c at (run' c))
   store at n run run' takes long long' rel = record { each = λ c d r. N .stores c d (run c) (run' d) at n r takes (long c) (long' d) (rel c d r) }
 
   pub copy-kept : (s t n : ℕ) → N .Sees s n → N .Takes t n → Keeps (N .R) (copyRun s t n)
   unfolding copyRun
-  copy-kept s t n sees takes = let long : (c : List ℕ) → length (fetch c s n) ≡ n = λ c. fetch-length c s n in store t n (λ c. fetch c s n) (λ c. fetch c s n) takes long long (λ c d r. N .reads c d s n r sees)
+  copy-kept s t n sees takes = store t n _ _ takes (λ c. fetch-length c s n) (λ c. fetch-length c s n) (λ c d r. N .reads c d s n r sees)
 
+  -- rows of such runs
+  rows-kept : (h at step n : ℕ) (line line' : ℕ → List ℕ → List ℕ) → Rows (N .Takes) h at step n → ((y : ℕ) (c : List ℕ) → length (line y c) ≡ n) → ((y : ℕ) (c : List ℕ) → length (line' y c) ≡ n) → ((y : ℕ) → y < h → (c d : List ℕ) → N .R c d → Rel E (line y c) (line' y d)) → Respects (N .R) (steps (λ y c. put c (at + y * step) (line y c)) h) (steps (λ y c. put c (at + y * step) (line' y c)) h)
+  rows-kept h at step n line line' takes long long' rel = turns _ _ h (λ y lt. store (at + y * step) n (line y) (line' y) (takes y lt) (long y) (long' y) (rel y lt))
+
+module _ {E : ℕ → ℕ → Type 0} (B : Bytes E) (N : Notion E) where
   -- ---- later levels; what is seen is the canvas, or the source plane
   module _ (f : ReduceFilter) (t : Region) (step : ℕ) (takes : Rows (N .Takes) (t .height) (t .offset) step (2 * t .width)) where
     vertical-kept : {Ok : ℕ → ℕ → Type 0} (see see' : List ℕ → List ℕ) (base sp : ℕ) → ((c d : List ℕ) → N .R c d → (a k : ℕ) → Ok a k → Rel E (fetch (see c) a k) (fetch (see' d) a k)) → LevelReads Ok f (wholeOf f (2 * t .width)) base sp t → Respects (N .R) (verticalRows f see base sp t step) (verticalRows f see' base sp t step)
@@ -105,22 +113,17 @@ module _ {E : ℕ → ℕ → Type 0} (B : Bytes E) (N : Notion E) where
         let h = t .height in
         let whole = wholeOf f n in
         let long : (y : ℕ) (s : List ℕ) → length (verticalLine f whole n h s base sp y) ≡ n = λ y s. line-length f whole n h s base sp y (whole-or f n .0) in
-        turns _ _ h
-        (λ y lt.
-        store (t .offset + y * step) n (λ c. verticalLine f whole n h (see c) base sp y) (λ c. verticalLine f whole n h (see' c) base sp y) (takes y lt) (λ c. long y (see c)) (λ c. long y (see' c))
-        (λ c d r. rel-line B (see c) (see' d) (seen c d r) f whole n h base sp y (lines y lt)))
+        rows-kept N h (t .offset) step n _ _ takes (λ y c. long y (see c)) (λ y c. long y (see' c)) (λ y lt c d r. rel-line B (see c) (see' d) (seen c d r) f whole n h base sp y (lines y lt))
 
     horizontal-kept : Rows (N .Sees) (t .height) (t .offset) step (2 * t .width) → Keeps (N .R) (horizontalRows f t step)
     unfolding horizontalRows halveRun
     horizontal-kept sees =
         let w = t .width in
         let n = 2 * w in
-        turns _ _ (t .height)
-        (λ y lt.
+        rows-kept N (t .height) (t .offset) step w _ _ (λ y lt. N .fewer (t .offset + y * step) w n (omega arith) (takes y lt)) (λ y c. horizontal-length f w _) (λ y c. horizontal-length f w _)
+        (λ y lt c d r.
         let at = t .offset + y * step in
-        let long : (c : List ℕ) → length (horizontalRow f w (fetch c at n)) ≡ w = λ c. horizontal-length f w (fetch c at n) in
-        store at w (λ c. horizontalRow f w (fetch c at n)) (λ c. horizontalRow f w (fetch c at n)) (N .fewer at w n (omega arith) (takes y lt)) long long
-        (λ c d r. rel-horizontal B f w (fetch c at n) (fetch d at n) (fetch-length c at n ∙ sym (fetch-length d at n)) (N .reads c d at n r (sees y lt))))
+        rel-horizontal B f w (fetch c at n) (fetch d at n) (fetch-length c at n ∙ sym (fetch-length d at n)) (N .reads c d at n r (sees y lt)))
 
   pub stored-kept : (f : ReduceFilter) (base p : ℕ) (t : Region) → Rows (N .Takes) (t .height) (t .offset) p (2 * t .width) → Rows (N .Sees) (t .height) (t .offset) p (2 * t .width) → LevelReads (N .Sees) f (wholeOf f (2 * t .width)) base p t → Keeps (N .R) (fromStored f base p t)
   unfolding fromStored
@@ -135,18 +138,15 @@ module _ {E : ℕ → ℕ → Type 0} (B : Bytes E) (N : Notion E) where
       let h = t .height in
       let line : ℕ → List ℕ → List ℕ = λ y c. verticalLine Cubic n n h c base p y in
       let long : (y : ℕ) (c : List ℕ) → length (line y c) ≡ n = λ y c. line-length Cubic n n h c base p y (omega arith) in
-      turns _ _ h
-      (λ y lt.
-      let all : (c : List ℕ) → length (fusedLine p w (line y c)) ≡ p = λ c. fused-length p w (line y c) fits (long y c) in
-      store (t .offset + y * p) p (λ c. fusedLine p w (line y c)) (λ c. fusedLine p w (line y c)) (takes y lt) all all
-      (λ c d r. rel-fused B p w (line y c) (line y d) (long y c ∙ sym (long y d)) (rel-line B c d (λ a k s. N .reads c d a k r s) Cubic n n h base p y (lines y lt))))
+      let all : (y : ℕ) (c : List ℕ) → length (fusedLine p w (line y c)) ≡ p = λ y c. fused-length p w (line y c) fits (long y c) in
+      rows-kept N h (t .offset) p p _ _ takes all all
+      (λ y lt c d r. rel-fused B p w (line y c) (line y d) (long y c ∙ sym (long y d)) (rel-line B c d (λ a k s. N .reads c d a k r s) Cubic n n h base p y (lines y lt)))
 
-  -- line 0 stays where it is
-  pub close-kept : (t p h : ℕ) → ((y : ℕ) → 1 ≤ y → y < h → N .Sees (t + y * (2 * p)) p × N .Takes (t + y * p) p) → Keeps (N .R) (closeUp t p h)
+  pub close-kept : (t p h : ℕ) → CloseNeed N t p h → Keeps (N .R) (closeUp t p h)
   unfolding closeUp
-  close-kept t p h line = turns _ _ (h - 1) (λ i lt. let l = line (i + 1) (omega arith) (omega arith) in copy-kept (t + (i + 1) * (2 * p)) (t + (i + 1) * p) p (l .0) (l .1))
+  close-kept t p h line = turns _ _ (h - 1) (λ i lt. let l = line (i + 1) (omega arith) (omega arith) in copy-kept N (t + (i + 1) * (2 * p)) (t + (i + 1) * p) p (l .0) (l .1))
 
-  pub source-kept : (f : ReduceFilter) (src src' : List ℕ) (sp p : ℕ) (t : Region) → Rel E src src' → Rows (N .Takes) (t .height) (t .offset) (2 * p) (2 * t .width) → Rows (N .Sees) (t .height) (t .offset) (2 * p) (2 * t .width) → ((y : ℕ) → 1 ≤ y → y < t .height → N .Sees (t .offset + y * (2 * p)) p × N .Takes (t .offset + y * p) p) → Respects (N .R) (fromSource f src sp p t) (fromSource f src' sp p t)
+  pub source-kept : (f : ReduceFilter) (src src' : List ℕ) (sp p : ℕ) (t : Region) → Rel E src src' → Rows (N .Takes) (t .height) (t .offset) (2 * p) (2 * t .width) → Rows (N .Sees) (t .height) (t .offset) (2 * p) (2 * t .width) → CloseNeed N (t .offset) p (t .height) → Respects (N .R) (fromSource f src sp p t) (fromSource f src' sp p t)
   unfolding fromSource
   source-kept f src src' sp p t same takes sees line =
       after
@@ -158,14 +158,14 @@ module _ {E : ℕ → ℕ → Type 0} (B : Bytes E) (N : Notion E) where
   -- ---- planes of level 0
   pub pair-run-kept : (t l r n : ℕ) → N .Sees l n → N .Sees r n → N .Takes t n → Keeps (N .R) (pairRun t l r n)
   unfolding pairRun
-  pair-run-kept t l r n left right takes = store t n _ _ takes (λ c. means-length n _ _) (λ c. means-length n _ _) (λ c d r'. rel-means B n _ _ _ _ (N .reads c d l n r' left) (N .reads c d r n r' right))
+  pair-run-kept t l r n left right takes = store N t n _ _ takes (λ c. means-length n _ _) (λ c. means-length n _ _) (λ c d r'. rel-means B n _ _ _ _ (N .reads c d l n r' left) (N .reads c d r n r' right))
 
   pub pair-kept : (i : Interp) (t l r : ℕ) → PairNeed N i t l r → Keeps (N .R) (pairPlane i t l r)
   unfolding pairPlane
   pair-kept i t l r P = turns _ _ (i .height) (λ y lt. pair-run-kept (t + y * i .pitch) (l + y * i .pitch) (r + y * i .pitch) (chunked (i .width)) (P .left y lt) (P .right y lt) (P .target y lt))
 
   pub under-kept : (i : Interp) (t r s : ℕ) → UnderNeed N i t r s → Keeps (N .R) (λ c. copyRun s t (i .width) (pairPlane i t 0 r c))
-  under-kept i t r s P = after (pair-kept i t 0 r (P .pair)) (copy-kept s t (i .width) (P .from) (P .to))
+  under-kept i t r s P = after (pair-kept i t 0 r (P .pair)) (copy-kept N s t (i .width) (P .from) (P .to))
 
   pub means-kept : (i : Interp) (a b d : ℕ) → PairNeed N i (planeAt i a) 0 1 → UnderNeed N i (planeAt i b) (i .pitch) 0 → UnderNeed N i (planeAt i d) (i .pitch + 1) 1 → Keeps (N .R) (meanPlanes i a b d)
   unfolding meanPlanes
@@ -175,24 +175,18 @@ module _ {E : ℕ → ℕ → Type 0} (B : Bytes E) (N : Notion E) where
     pub across-kept : (t s : ℕ) → OneNeed N i (i .height) t s → Keeps (N .R) (horizontalPlane k i t s)
     unfolding horizontalPlane
     across-kept t s P =
-        let p = i .pitch in
         let w = i .width in
-        turns _ _ (i .height)
-        (λ y lt.
-        store (t + y * p) w _ _ (P .target y lt) (λ c. half-horizontal-length k w _) (λ c. half-horizontal-length k w _)
-        (λ c d r. rel-across B k K w _ _ (N .reads c d (s + y * p) w r (P .source y lt))))
+        rows-kept N (i .height) t (i .pitch) w _ _ (P .target) (λ y c. half-horizontal-length k w _) (λ y c. half-horizontal-length k w _) (λ y lt c d r. rel-across B k K w _ _ (N .reads c d (s + y * i .pitch) w r (P .source y lt)))
 
     pub below-kept : (t s : ℕ) → OneNeed N i (i .height + 3) t s → Keeps (N .R) (verticalPlane k i t s)
     unfolding verticalPlane verticalRun
     below-kept t s P =
-        let p = i .pitch in
+        let h = i .height in
         let w = i .width in
-        turns _ _ (i .height)
-        (λ y lt.
-        store (t + y * p) w (verticalRun k i s y) (verticalRun k i s y) (P .target y lt) (λ c. half-vertical-length k y (i .height) w _ _ _ _ _ _) (λ c. half-vertical-length k y (i .height) w _ _ _ _ _ _)
-        (λ c d r.
-        let row : (j : ℕ) → j < i .height + 3 → Rel E (fetch c (s + j * p) w) (fetch d (s + j * p) w) = λ j h. N .reads c d (s + j * p) w r (P .source j h) in
-        rel-below B k K y (i .height) w _ _ _ _ _ _ _ _ _ _ _ _ (row (y - 2) (omega arith)) (row (y - 1) (omega arith)) (row y (omega arith)) (row (y + 1) (omega arith)) (row (y + 2) (omega arith)) (row (y + 3) (omega arith))))
+        rows-kept N h t (i .pitch) w _ _ (P .target) (λ y c. half-vertical-length k y h w _ _ _ _ _ _) (λ y c. half-vertical-length k y h w _ _ _ _ _ _)
+        (λ y lt c d r.
+        let row : (j : ℕ) → j < h + 3 → Rel E (fetch c (s + j * i .pitch) w) (fetch d (s + j * i .pitch) w) = λ j l. N .reads c d (s + j * i .pitch) w r (P .source j l) in
+        rel-below B k K y h w _ _ _ _ _ _ _ _ _ _ _ _ (row (y - 2) (omega arith)) (row (y - 1) (omega arith)) (row y (omega arith)) (row (y + 1) (omega arith)) (row (y + 2) (omega arith)) (row (y + 3) (omega arith)))
 
     pub kernel-kept : (a b d : ℕ) → OneNeed N i (i .height) (planeAt i a) 0 → OneNeed N i (i .height + 3) (planeAt i b) 0 → OneNeed N i (i .height) (planeAt i d) (planeAt i b) → Keeps (N .R) (kernelPlanes k i a b d)
     unfolding kernelPlanes

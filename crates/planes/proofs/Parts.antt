@@ -29,7 +29,7 @@ unfolding copied
 copied-kept B N q src src' sp same takes =
     let w = widthAt q 0 in
     turns _ _ (heightAt q 0)
-    (λ y lt. store B N (y * q .pitch) w (λ c. fetch src (y * sp) w) (λ c. fetch src' (y * sp) w) (takes y lt) (λ c. fetch-length src (y * sp) w) (λ c. fetch-length src' (y * sp) w) (λ c d r. rel-fetch B src src' (y * sp) w same))
+    (λ y lt. store N (y * q .pitch) w (λ c. fetch src (y * sp) w) (λ c. fetch src' (y * sp) w) (takes y lt) (λ c. fetch-length src (y * sp) w) (λ c. fetch-length src' (y * sp) w) (λ c d r. rel-fetch B src src' (y * sp) w same))
 
 -- level l, of two source planes
 pub record Level (R : List ℕ → List ℕ → Type 0) (q : Layout) (src src' : List ℕ) (sp len : ℕ) (f : ReduceFilter) (l : ℕ) : Type 0 where
