@@ -173,7 +173,7 @@ impl ReduceFilter {
         }
     }
 
-    fn weigh_bytes(self, m2: u8, m1: u8, c0: u8, p1: u8, p2: u8, p3: u8) -> u8
+    fn weigh_bytes(self, m2: u8, p3: u8, m1: u8, p2: u8, c0: u8, p1: u8) -> u8
         ensures { λ r. ⌜ r ≡ weigh self m2 m1 c0 p1 p2 p3 ⌝ }
     {
         self.weigh(
@@ -187,6 +187,7 @@ impl ReduceFilter {
     }
 
     // One target row that is no edge, from the rows around the source row. A row that the filter doesn't read may be any that is long enough.
+    // The bytes are read from the outer rows inward: of rows read in their own order, evenly apart, the compiler would make each address from the one before, at an instruction each.
     pub fn vertical_filter(
         self,
         out: &mut [u8],
@@ -202,7 +203,7 @@ impl ReduceFilter {
     {
         let n = out.len();
         for i in 0..n {
-            out[i] = self.weigh_bytes(m2[i], m1[i], c0[i], p1[i], p2[i], p3[i]);
+            out[i] = self.weigh_bytes(m2[i], p3[i], m1[i], p2[i], c0[i], p1[i]);
         }
     }
 
