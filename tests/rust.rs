@@ -1,4 +1,4 @@
-//! The Rust of open-svpflow, unchanged, with the doors that tests/calls.c goes through. scripts/door lays its files beside this one.
+//! The Rust of open-svpflow, unchanged, with the doors that tests/calls.c and bench/builds.c go through. scripts/door and bench/run lay its files beside this one.
 //! What the rules refuse isn't asked of it, but for settings: the Rust has no such limits.
 #![allow(dead_code)]
 
