@@ -13,7 +13,7 @@ use Rattle.settings.specs.Numbers.{isNat, refuse}
 use Rattle.settings.specs.Check.{accepted, settingsNo, recordNo}
 use Rattle.settings.specs.Answers.{noRecord}
 use Rattle.settings.proofs.Tests.{and-left}
-use Rattle.answers.specs.Fields.{flag, numbersOf, at, isFlag, areFields, fieldsOf, recordOf}
+use Rattle.answers.specs.Fields.{flag, numbersOf, at, isBit, areFields, fieldsOf, recordOf}
 
 pub no-record-of : (l : List ℤ) → areFields l ≡ false → noRecord ≡ recordOf l
 unfolding recordOf
@@ -26,7 +26,7 @@ record-fields l e = rw e
 pub record-long : (l : List ℤ) → areFields l ≡ true → 10 ≤ length l
 unfolding areFields
 record-long l e =
-    let ten = eqb-true (length l) 10 (and-left (eqb (length l) 10) (isFlag (at l 4)) (and-left (eqb (length l) 10 && isFlag (at l 4)) (isFlag (at l 5)) (and-left (eqb (length l) 10 && isFlag (at l 4) && isFlag (at l 5)) (isFlag (at l 6)) e))) in
+    let ten = eqb-true (length l) 10 (and-left (eqb (length l) 10) (isBit (at l 4)) (and-left (eqb (length l) 10 && isBit (at l 4)) (isBit (at l 5)) (and-left (eqb (length l) 10 && isBit (at l 4) && isBit (at l 5)) (isBit (at l 6)) e))) in
     omega arith
 
 -- ---- numbers that are no record's are 6
@@ -38,7 +38,7 @@ pub no-record-refused : (l : List ℤ) → areFields l ≡ false → recordNo (r
 no-record-refused l e = ap recordNo (sym (no-record-of l e)) ∙ ap (λ (b : Bool). refuse (not b) 6) zeros-refused
 
 -- ---- a record's numbers are that record's: what `sill_check` tells, each other call takes
-flag-is : (b : Bool) → isFlag (flag b) ≡ true
+flag-is : (b : Bool) → isBit (flag b) ≡ true
 flag-is true = refl
 flag-is false = refl
 

@@ -62,12 +62,12 @@ numbersOf r =
 abbrev pub at : List ℤ → ℕ → ℤ
 at l i = getD l i (pos 0)
 
-abbrev pub isFlag : ℤ → Bool
-isFlag z = isNat z 0 || isNat z 1
+abbrev pub isBit : ℤ → Bool
+isBit z = isNat z 0 || isNat z 1
 
 -- a record's numbers: ten, and each flag 0 or 1
 unfoldable pub areFields : List ℤ → Bool
-areFields l = eqb (length l) 10 && isFlag (at l 4) && isFlag (at l 5) && isFlag (at l 6)
+areFields l = eqb (length l) 10 && isBit (at l 4) && isBit (at l 5) && isBit (at l 6)
 
 abbrev pub fieldsOf : List ℤ → SuperOpts
 fieldsOf l =

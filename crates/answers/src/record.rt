@@ -3,7 +3,7 @@ ghost use mathlib.Core.Path.{_≡_};
 ghost use Prim.Native.Nat.{_≤_};
 ghost use lib.ListN.{length};
 ghost use Rattle.settings.specs.Answers.{noRecord};
-ghost use Rattle.answers.specs.Fields.{flag, isFlag, areFields, fieldsOf, recordOf, numbersOf};
+ghost use Rattle.answers.specs.Fields.{flag, isBit, areFields, fieldsOf, recordOf, numbersOf};
 use settings::super_opts::SuperOpts;
 
 // How many numbers a record has.
@@ -25,11 +25,11 @@ fn are_fields(fields: &[i32]) -> bool
     if fields.len() != FIELDS {
         return false;
     }
-    is_flag(fields[4]) & is_flag(fields[5]) & is_flag(fields[6])
+    is_bit(fields[4]) & is_bit(fields[5]) & is_bit(fields[6])
 }
 
-fn is_flag(z: i32) -> bool
-    ensures { λ r. ⌜ r ≡ isFlag z ⌝ }
+fn is_bit(z: i32) -> bool
+    ensures { λ r. ⌜ r ≡ isBit z ⌝ }
 {
     (z == 0) | (z == 1)
 }

@@ -12,7 +12,7 @@ use Rattle.settings.specs.Reading.{candidate, readNo, Packs, agree, alike}
 use Rattle.settings.proofs.Tests.{and-left, and-right}
 use Rattle.settings.proofs.Told.{read-case, at-0, code-packs}
 use Rattle.demands.specs.Demands.{SameBuild, leaves, Leaves}
-use Rattle.demands.proofs.Same.{changed, leaves-marks, numberOf, number-same, leaves-canon, builds-canon}
+use Rattle.demands.proofs.Same.{changed, leaves-marks, buildNumber, number-same, leaves-canon, builds-canon}
 
 -- a field below bit 47 is one of the bits below it
 height-low : (v : ℕ) → bits (v % 2 ^ 47) 0 16 ≡ bits v 0 16
@@ -72,7 +72,7 @@ alike-build a b e r s p q g m is-src is-frame h =
     let x = candidate a in
     let y = candidate b in (
       sym (builds-canon b s q g)
-          ∙ ap (λ (z : SuperOpts). numberOf z g) as-marked
+          ∙ ap (λ (z : SuperOpts). buildNumber z g) as-marked
           ∙ number-same x (x .«scale_down») (x .«scale_up») (y .rc) (y .lean) g good-a (sym (ap accepted as-marked) ∙ good-b)
           ∙ builds-canon a r p g
           ∙ h .0,

@@ -35,24 +35,24 @@ use Rattle.demands.proofs.Alike.{alike-build}
 use Rattle.demands.proofs.Demanded.{then-none, refuse-none, reads-met}
 
 -- ---- the calls' contracts
-itself : {A : Type 0} → A ↔ A
-itself = (λ a. a, λ a. a)
+both-ways : {A : Type 0} → A ↔ A
+both-ways = (λ a. a, λ a. a)
 
 pub from-opt-contract : (κs : Lfts 0) → Contract (from-opt-reads.Post κs) (λ x c e. checked c ≡ checkAnswer (x .0) (x .1 .0) (x .1 .1 .0))
-from-opt-contract κs x c e = itself
+from-opt-contract κs x c e = both-ways
 
 pub pack-data-contract : (κs : Lfts 0) → Contract (pack-data-reads.Post κs) (λ x c e. packed c ≡ packAnswer (x .0))
-pack-data-contract κs x c e = itself
+pack-data-contract κs x c e = both-ways
 
 pub read-word-contract : (κs : Lfts 0) → Contract (read-word-reads.Post κs) (λ x t e. told t ≡ readAnswer (x .0))
-read-word-contract κs x t e = itself
+read-word-contract κs x t e = both-ways
 
 pub prepare-alike-contract : (κs : Lfts 0) → Contract (prepare-alike-reads.Post κs) (λ x b e. b ≡ alike (x .0) (x .1 .0))
-prepare-alike-contract κs x b e = itself
+prepare-alike-contract κs x b e = both-ways
 
 -- of layout, source, source pitch, frame, spill and scratch
 pub build-plane-contract : (κs : Lfts 4) → Contract (build-plane-reads.Post κs) (λ x t e. BuildLeaves (x .1 .1 .1 .0) (now (x .1 .1 .1 .1 .0)) (x .1 .1 .1 .1 .1 .0) (now (x .0)) (now (x .1 .0)) (now (x .1 .1 .0)) (tested t) (now (e .0)) (now (e .1 .0)) (now (e .1 .1 .0)))
-build-plane-contract κs x t e = itself
+build-plane-contract κs x t e = both-ways
 
 -- ---- from the definitions to the calls
 packs-to : (v : ℕ) (r : SuperOpts) → Packs v r ↔ PacksTo v r

@@ -167,15 +167,15 @@ leaves-canon v e r p g =
     four-fits false = refl
 
 -- ---- what packs to one word builds, or none does: an accepted record's number doesn't depend on its filters, rc and lean
-abbrev pub numberOf : SuperOpts → Inputs → ℕ
-numberOf r g = let q = withLayout r g in buildNo q (length (g .plane)) (g .«src_pitch») (length (g .frame)) (spillNeed q) (scratchNeed q)
+abbrev pub buildNumber : SuperOpts → Inputs → ℕ
+buildNumber r g = let q = withLayout r g in buildNo q (length (g .plane)) (g .«src_pitch») (length (g .frame)) (spillNeed q) (scratchNeed q)
 
-pub number-same : (r : SuperOpts) (d u : ℤ) (rc lean : Bool) (g : Inputs) → accepted r ≡ true → accepted (changed r d u rc lean) ≡ true → numberOf (changed r d u rc lean) g ≡ numberOf r g
+pub number-same : (r : SuperOpts) (d u : ℤ) (rc lean : Bool) (g : Inputs) → accepted r ≡ true → accepted (changed r d u rc lean) ≡ true → buildNumber (changed r d u rc lean) g ≡ buildNumber r g
 unfolding buildNo layoutNo lentNo
 number-same r d u rc lean g good good' = rw (good, good', offset-same r d u rc lean g (levelCount r))
 
-pub builds-canon : (v : ℕ) (r : SuperOpts) → Packs v r → (g : Inputs) → numberOf (candidate v) g ≡ numberOf r g
-builds-canon v r p g = ap (λ (x : SuperOpts). numberOf x g) (packs-canon v r p) ∙ number-same r (fourOr r) (pos 0) (r .rc) (r .lean) g (p .good) (canon-accepted r (p .good))
+pub builds-canon : (v : ℕ) (r : SuperOpts) → Packs v r → (g : Inputs) → buildNumber (candidate v) g ≡ buildNumber r g
+builds-canon v r p g = ap (λ (x : SuperOpts). buildNumber x g) (packs-canon v r p) ∙ number-same r (fourOr r) (pos 0) (r .rc) (r .lean) g (p .good) (canon-accepted r (p .good))
 
 builds-both : (v : ℕ) (r s : SuperOpts) → Packs v r → Packs v s → (g : Inputs) → Builds r g → Builds s g
 builds-both v r s p q g e = sym (builds-canon v s q g) ∙ builds-canon v r p g ∙ e

@@ -4,6 +4,8 @@ use contract.Lifetimes.{Lfts}
 use Rattle.settings.proofs.Outcome.{OneOutcome, determined, itself}
 use Rattle.lines.specs.Text.{shown}
 use Rattle.lines.proofs.text.all_digits.Reads as all-digits-reads
+use Rattle.lines.proofs.text.hex_of.Reads as hex-of-reads
+use Rattle.lines.proofs.text.number_of.Reads as number-of-reads
 use Rattle.lines.proofs.text.hex_word.Reads as hex-word-reads
 use Rattle.lines.proofs.text.Line.new.Reads as new-reads
 use Rattle.lines.proofs.text.line_out.Reads as line-out-reads
@@ -12,6 +14,12 @@ use Rattle.lines.proofs.Lines.{empty}
 
 pub all-digits-unique : (κs : Lfts 1) → OneOutcome (all-digits-reads.Post κs) (λ r e. r)
 all-digits-unique κs x r s e f p q = determined itself p q
+
+pub hex-of-unique : (κs : Lfts 0) → OneOutcome (hex-of-reads.Post κs) (λ r e. r)
+hex-of-unique κs x r s e f p q = determined itself (p .0) (q .0)
+
+pub number-of-unique : (κs : Lfts 1) → OneOutcome (number-of-reads.Post κs) (λ r e. r)
+number-of-unique κs x r s e f p q = determined itself p q
 
 pub hex-word-unique : (κs : Lfts 1) → OneOutcome (hex-word-reads.Post κs) (λ r e. r)
 hex-word-unique κs x r s e f p q = determined itself p q

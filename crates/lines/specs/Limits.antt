@@ -5,6 +5,6 @@ use Prim.Native.Nat.{ℕ, _*_}
 abbrev pub mostInput : ℕ
 mostInput = 65536
 
--- what is printed for k bytes of input, at most, newlines counted
+-- inner: what is printed for k bytes of input, at most, newlines counted
 abbrev pub mostPrinted : ℕ → ℕ
 mostPrinted k = 16 * k

@@ -1,4 +1,4 @@
--- Text in and out: digits, numbers, and a line that is being made; between them document 01, "Words read and compared": the line that the program `words` prints for a line.
+-- Text in and out: digits, numbers, and last, inner, a line that is being made; between them document 01, "Words read and compared": the line that the program `words` prints for a line.
 use Prim.Native.Nat.{ℕ, zero, suc, _+_, _*_, _-_, _/_, _%_, _≤_}
 use mathlib.Core.Path.{_≡_}
 use mathlib.Core.Bool.{Bool, true, cond, _&&_, _||_}
@@ -96,7 +96,7 @@ lineOf l Other = 45 ∷ 10 ∷ []
 abbrev pub lineOut : List ℕ → List ℕ
 lineOut l = lineOf l (hexRead l)
 
--- ---- a line that is being made
+-- ---- inner: a line that is being made
 -- the room of a line: each line that is made is shorter
 abbrev pub room : ℕ
 room = 256

@@ -72,7 +72,7 @@ readText a =
     ++ cond (eqb (a .no) 0 || eqb (a .no) 16) (spaced (decimal (a .value .after))) []
     ++ cond (eqb (a .no) 0) (optsText (a .value .opts) ++ wordText (a .value .opts)) []
 
--- its bytes, at most
+-- inner: its bytes, at most
 abbrev pub readMost : Answer Longhand → ℕ
 readMost a = cond (eqb (a .no) 0) 253 41
 
@@ -91,7 +91,7 @@ askedAnswer l = checkAnswer (askedSettings l) (askedSide l 0) (askedSide l 1)
 unfoldable pub answerText : List ℕ → List ℕ
 answerText l = cond (isRecord l) (readText (longhandAnswer (bytesOf l))) (cond (isAsked l) (checkedText (askedAnswer l)) (45 ∷ []))
 
--- its bytes, at most, for a line of k: a newline after them has room too
+-- inner: its bytes, at most, for a line of k: a newline after them has room too
 abbrev pub textMost : ℕ → ℕ
 textMost k = min 253 (mostPrinted (k + 1) - 1)
 

@@ -18,7 +18,7 @@ use Rattle.settings.specs.Answers.{Answer, answer, packAnswer, Returns}
 use Rattle.settings.proofs.Tests.{and-left, and-right, or-yes, not-not, cond-not, clash, false-by}
 use Rattle.settings.proofs.Accepted.{is-nat-pos, Fine, fine, fine-accepted, sound, within, levels-most, pos-pel, pos-gpu, pos-side, pos-levels, accepted-exact}
 use Rattle.settings.proofs.Known.{given}
-use Rattle.settings.proofs.Words.{bit-back, small, word-height, word-width, word-pel, word-levels, word-other, word-lean, word-gpu, word-rc, word-part}
+use Rattle.settings.proofs.Words.{pack-none, bit-back, small, word-height, word-width, word-pel, word-levels, word-other, word-lean, word-gpu, word-rc, word-part}
 
 -- ---- the record that a word spells
 -- r with other filters
@@ -115,12 +115,12 @@ pub data Case : Bool → Bool → Bool → ℕ → Type 0 where
   none : {a b : Bool} → Case false a b 20
   open-down : {b : Bool} → Case true true b 21
   open-up : Case true false true 22
-  tells : Case true false false 0
+  named : Case true false false 0
 
 case : (c a b : Bool) → Case c a b (numberBy c a b)
 case true true b = open-down
 case true false true = open-up
-case true false false = tells
+case true false false = named
 case false a b = none
 
 pub read-case : (v : ℕ) → Case (isCode (candidate v) v) (halving (candidate v)) (upscale (candidate v)) (readNo v)
@@ -130,25 +130,25 @@ at-20 : {c a b : Bool} {n : ℕ} → Case c a b n → n ≡ 20 → c ≡ false
 at-20 none e = refl
 at-20 open-down e = absurd (omega arith)
 at-20 open-up e = absurd (omega arith)
-at-20 tells e = absurd (omega arith)
+at-20 named e = absurd (omega arith)
 
 pub at-21 : {c a b : Bool} {n : ℕ} → Case c a b n → n ≡ 21 → (c ≡ true) × (a ≡ true)
 at-21 none e = absurd (omega arith)
 at-21 open-down e = (refl, refl)
 at-21 open-up e = absurd (omega arith)
-at-21 tells e = absurd (omega arith)
+at-21 named e = absurd (omega arith)
 
 pub at-22 : {c a b : Bool} {n : ℕ} → Case c a b n → n ≡ 22 → (c ≡ true) × (a ≡ false) × (b ≡ true)
 at-22 none e = absurd (omega arith)
 at-22 open-down e = absurd (omega arith)
 at-22 open-up e = (refl, refl, refl)
-at-22 tells e = absurd (omega arith)
+at-22 named e = absurd (omega arith)
 
 pub at-0 : {c a b : Bool} {n : ℕ} → Case c a b n → n ≡ 0 → (c ≡ true) × (a ≡ false) × (b ≡ false)
 at-0 none e = absurd (omega arith)
 at-0 open-down e = absurd (omega arith)
 at-0 open-up e = absurd (omega arith)
-at-0 tells e = (refl, refl, refl)
+at-0 named e = (refl, refl, refl)
 
 -- ---- 20: "It answers "not a code" exactly if none packs to it"
 pub none-exact : (v : ℕ) → (readNo v ≡ 20) ↔ ((r : SuperOpts) → Packs v r → ⊥)
@@ -189,7 +189,7 @@ only-exact v = of (read-case v)
     of none = inr (inl refl)
     of open-down = inr (inr (inl refl))
     of open-up = inr (inr (inr refl))
-    of tells = inl refl
+    of named = inl refl
 
 -- ---- what `Packs` is, by the calls' own answers: the check can return the record, and packing it gives the word
 fits-by : (z : ℤ) (m : ℕ) → pos (toNat z) ≡ z → toNat z ≤ m → m < 2 ^ 31 → isI32 z ≡ true
@@ -208,9 +208,6 @@ packs-fits v r p =
       width = fits-by (r .width) mostSide (pos-side (r .width) (o .width)) (b .width) (omega arith);
       height = fits-by (r .height) mostSide (pos-side (r .height) (o .height)) (b .height) (omega arith);
     }
-
-pack-none : (r : SuperOpts) → accepted r ≡ true → packNo r ≡ 0
-pack-none r e = rw (e, le-ltb mostPacked (levelCount r) (omega (arith, levels-most r e)))
 
 pub packs-exact : (v : ℕ) (r : SuperOpts) → Packs v r ↔ (Returns r × (packAnswer r ≡ answer 0 v))
 packs-exact v r = (

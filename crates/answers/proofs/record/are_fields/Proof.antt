@@ -13,23 +13,23 @@ returns : tie.Need-returns
 unfolding areFields
 returns c = rw (ne-eqb (length (now (c .before .args .fields))) 10 (c .if1 .taken))
 
-shared-slice-copy-out-is-flag : tie.Need-shared-slice-copy-out-is-flag
-shared-slice-copy-out-is-flag c = search needs
+shared-slice-copy-out-is-bit : tie.Need-shared-slice-copy-out-is-bit
+shared-slice-copy-out-is-bit c = search needs
 
-is-flag-requires : tie.Need-is-flag-requires
-is-flag-requires c κs = search needs
+is-bit-requires : tie.Need-is-bit-requires
+is-bit-requires c κs = search needs
 
-shared-slice-copy-out-is-flag-2 : tie.Need-shared-slice-copy-out-is-flag-2
-shared-slice-copy-out-is-flag-2 c = search needs
+shared-slice-copy-out-is-bit-2 : tie.Need-shared-slice-copy-out-is-bit-2
+shared-slice-copy-out-is-bit-2 c = search needs
 
-is-flag-requires-2 : tie.Need-is-flag-requires-2
-is-flag-requires-2 c κs = search needs
+is-bit-requires-2 : tie.Need-is-bit-requires-2
+is-bit-requires-2 c κs = search needs
 
-shared-slice-copy-out-is-flag-3 : tie.Need-shared-slice-copy-out-is-flag-3
-shared-slice-copy-out-is-flag-3 c = search needs
+shared-slice-copy-out-is-bit-3 : tie.Need-shared-slice-copy-out-is-bit-3
+shared-slice-copy-out-is-bit-3 c = search needs
 
-is-flag-requires-3 : tie.Need-is-flag-requires-3
-is-flag-requires-3 c κs = search needs
+is-bit-requires-3 : tie.Need-is-bit-requires-3
+is-bit-requires-3 c κs = search needs
 
 returns-2 : tie.Need-returns-2
 unfolding areFields
@@ -38,17 +38,17 @@ returns-2 c =
     let full = rc .before .before in
     let start = full .before .before in
     let l = now (start .before .args .fields) in
-    rw (c .is-flag3 .ensures, rc .is-flag2 .ensures, full .is-flag .ensures, eq-eqb (length l) 10 (start .if1 .left), same (at l 4) (sfits-of (full .before .is-flag-arg .given)), same (at l 5) (sfits-of (rc .before .is-flag-arg2 .given)), same (at l 6) (sfits-of (c .before .is-flag-arg3 .given)))
+    rw (c .is-bit3 .ensures, rc .is-bit2 .ensures, full .is-bit .ensures, eq-eqb (length l) 10 (start .if1 .left), same (at l 4) (sfits-of (full .before .is-bit-arg .given)), same (at l 5) (sfits-of (rc .before .is-bit-arg2 .given)), same (at l 6) (sfits-of (c .before .is-bit-arg3 .given)))
 
 pub are-fields-spec : {M : Type 1} → statement M
 are-fields-spec =
     tie.close
     (tie.spec
     returns
-    shared-slice-copy-out-is-flag
-    is-flag-requires
-    shared-slice-copy-out-is-flag-2
-    is-flag-requires-2
-    shared-slice-copy-out-is-flag-3
-    is-flag-requires-3
+    shared-slice-copy-out-is-bit
+    is-bit-requires
+    shared-slice-copy-out-is-bit-2
+    is-bit-requires-2
+    shared-slice-copy-out-is-bit-3
+    is-bit-requires-3
     returns-2)
