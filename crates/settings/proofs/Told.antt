@@ -7,16 +7,16 @@ use Prim.Native.Nat.{ℕ, _≤_, _<_, _^_}
 use native.Mathlib.Omega.{arith}
 use lib.Dec.{eqb}
 use lib.IntN.{ℤ, pos}
-use borrow.Author.Tests.{eqb-true, eq-eqb, lt-ltb, le-ltb}
+use borrow.Author.Tests.{eqb-true, eq-eqb, lt-ltb}
 use Rattle.settings.specs.declared.super_opts.SuperOpts.{SuperOpts}
-use Rattle.settings.specs.Limits.{mostSide, mostLevels, mostPacked}
+use Rattle.settings.specs.Limits.{mostSide, mostLevels}
 use Rattle.settings.specs.Numbers.{isNat, toNat, isI32, refuse, _then_}
-use Rattle.settings.specs.Check.{settingsNo, levelCount, accepted, RecordI32}
+use Rattle.settings.specs.Check.{settingsNo, accepted, RecordI32}
 use Rattle.settings.specs.Word.{wordOf, packNo}
 use Rattle.settings.specs.Reading.{isSet, candidate, upMatters, downMatters, isCode, readNo, tellIf, describe, Packs}
 use Rattle.settings.specs.Answers.{Answer, answer, packAnswer, Returns}
 use Rattle.settings.proofs.Tests.{and-left, and-right, or-yes, not-not, cond-not, clash, false-by}
-use Rattle.settings.proofs.Accepted.{is-nat-pos, Fine, fine, fine-accepted, sound, within, levels-most, pos-pel, pos-gpu, pos-side, pos-levels, accepted-exact}
+use Rattle.settings.proofs.Accepted.{is-nat-pos, Fine, fine, fine-accepted, sound, within, pos-pel, pos-gpu, pos-side, pos-levels, accepted-exact}
 use Rattle.settings.proofs.Known.{given}
 use Rattle.settings.proofs.Words.{pack-none, bit-back, small, word-height, word-width, word-pel, word-levels, word-other, word-lean, word-gpu, word-rc, word-part}
 
