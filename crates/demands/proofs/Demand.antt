@@ -35,7 +35,7 @@ use Rattle.demands.proofs.Alike.{alike-build}
 use Rattle.demands.proofs.Demanded.{then-none, refuse-none, reads-met}
 
 -- ---- the calls' contracts
-both-ways : {A : Type 0} → A ↔ A
+pub both-ways : {A : Type 0} → A ↔ A
 both-ways = (λ a. a, λ a. a)
 
 pub from-opt-contract : (κs : Lfts 0) → Contract (from-opt-reads.Post κs) (λ x c e. checked c ≡ checkAnswer (x .0) (x .1 .0) (x .1 .1 .0))

@@ -8,7 +8,7 @@ use Prim.Native.Nat.{ℕ, zero, suc, _+_, _*_, _-_, _≤_, _<_}
 use native.Mathlib.Nat.{zero-mul, le-of-suc-le-suc, eq-or-lt-of-le}
 use native.Mathlib.Omega.{arith}
 use lib.Dec.{leb, ltb}
-use lib.ListN.{length, getD}
+use lib.ListN.{length, getD, length-replicate}
 use borrow.Author.Tests.{ltb-true, le-leb}
 use Rattle.settings.proofs.Tests.{or-cases}
 use Rattle.filters.specs.declared.halving.ReduceFilter.{ReduceFilter}
@@ -24,6 +24,7 @@ use Rattle.layouts.specs.declared.layout.Layout.{Layout}
 use Rattle.layouts.specs.declared.layout.Region.{Region}
 use Rattle.layouts.specs.Storing.{put, steps}
 use Rattle.layouts.specs.Layout.{widthAt, heightAt, offsetAt, regionAt}
+use Rattle.layouts.specs.Margins.{clearFrom}
 use Rattle.layouts.proofs.Choices.{cond-yes}
 use Rattle.layouts.proofs.Loops.{row-in}
 use Rattle.builder.specs.declared.refining.Interp.{Interp}
@@ -35,7 +36,7 @@ use Rattle.builder.proofs.Runs.{fetch-length, fetch-at, put-grows, put-before, 
 use Rattle.builder.proofs.Lines.{reads-all}
 use Rattle.builder.proofs.Refined.{cut, every, every-at}
 use Rattle.builder.proofs.Related.{Any, any-bytes, any-kernel, any-row}
-use Rattle.builder.proofs.Stages.{Keeps, after, turns, folds, Notion, OneNeed, PairNeed, UnderNeed, stored-kept, fused-kept, close-kept, source-kept, pair-kept, under-kept, means-kept, across-kept, below-kept, kernel-kept}
+use Rattle.builder.proofs.Stages.{Keeps, after, turns, folds, Notion, store, OneNeed, PairNeed, UnderNeed, stored-kept, fused-kept, close-kept, source-kept, pair-kept, under-kept, means-kept, across-kept, below-kept, kernel-kept}
 use Rattle.planes.specs.Build.{copied, halveLevel}
 use Rattle.planes.proofs.Prepared.{fused-fits}
 use Rattle.planes.proofs.Parts.{copied-kept, Level, level-kept}
@@ -59,7 +60,7 @@ has-in c at ys i j e in' lt is =
     record { there = omega (arith, put-grows c at ys); is = ap (λ (k : ℕ). getD (put c at ys) k 0) e ∙ put-at c ys at j lt ∙ is }
 
 -- n bytes at `at` lie elsewhere
-abbrev Off : ℕ → ℕ → ℕ → Type 0
+abbrev pub Off : ℕ → ℕ → ℕ → Type 0
 Off i at n = (i < at) ⊎ (at + n ≤ i)
 
 -- the byte stays where all that is stored does
@@ -83,11 +84,11 @@ has-after {c = c} keeps has = keeps .each c c has
 
 -- ---- loops
 -- every step keeps Q
-steps-keep : (Q : List ℕ → Type 0) (step : ℕ → List ℕ → List ℕ) (n : ℕ) (c : List ℕ) → ((y : ℕ) (d : List ℕ) → y < n → Q d → Q (step y d)) → Q c → Q (steps step n c)
+pub steps-keep : (Q : List ℕ → Type 0) (step : ℕ → List ℕ → List ℕ) (n : ℕ) (c : List ℕ) → ((y : ℕ) (d : List ℕ) → y < n → Q d → Q (step y d)) → Q c → Q (steps step n c)
 steps-keep Q step n c keep q = turns {R = λ d e. Q d} step step n (λ y lt. record { each = λ d e. keep y d lt }) .each c c q
 
 -- step k makes Q where G holds, which all keep; the later ones keep it
-steps-hit : (G Q : List ℕ → Type 0) (step : ℕ → List ℕ → List ℕ) (n k : ℕ) (c : List ℕ) → k < n → G c → ((y : ℕ) (d : List ℕ) → y < n → G d → G (step y d)) → ((d : List ℕ) → G d → Q (step k d)) → ((y : ℕ) (d : List ℕ) → y < n → k < y → Q d → Q (step y d)) → Q (steps step n c)
+pub steps-hit : (G Q : List ℕ → Type 0) (step : ℕ → List ℕ → List ℕ) (n k : ℕ) (c : List ℕ) → k < n → G c → ((y : ℕ) (d : List ℕ) → y < n → G d → G (step y d)) → ((d : List ℕ) → G d → Q (step k d)) → ((y : ℕ) (d : List ℕ) → y < n → k < y → Q d → Q (step y d)) → Q (steps step n c)
 unfolding steps
 steps-hit G Q step zero k c lt g keep makes keeps = absurd (omega arith)
 steps-hit G Q step (suc n) k c lt g keep makes keeps =
@@ -144,13 +145,24 @@ module _ (q : Layout) (src : List ℕ) (sp : ℕ) (fits : widthAt q 0 ≤ q .pit
   unfolding byte
   copied-past {i} {v} le = copied-kept any-bytes (byte i v) q src src sp any-row (λ y m. inr (omega (arith, row-in y h p m)))
 
+-- ---- a level from a stored one, and zeros to the pitch, leave what lies elsewhere
+pub stored-off : {i v : ℕ} (f : ReduceFilter) (base p : ℕ) (t : Region) → ((y : ℕ) → y < t .height → Off i (t .offset + y * p) (2 * t .width)) → KeepsByte i v (fromStored f base p t)
+unfolding byte
+stored-off {i} {v} f base p t off = stored-kept any-bytes (byte i v) f base p t off (λ y m. tt) (λ y m. reads-all (λ at n. tt))
+
+pub clear-off : {i v : ℕ} (column p : ℕ) (t : Region) → ((y : ℕ) → y < t .height → Off i (t .offset + y * p + column) (p - column)) → KeepsByte i v (clearFrom column t p)
+unfolding clearFrom byte
+clear-off {i} {v} column p t off =
+    let long = length-replicate {A = ℕ} (p - column) 0 in
+    turns _ _ (t .height) (λ y m. store (byte i v) (t .offset + y * p + column) (p - column) _ _ (off y m) (λ c. long) (λ c. long) (λ c d r. any-row))
+
 -- ---- later levels: bytes before a level stay
 pub level-off : {i v : ℕ} (q : Layout) (src : List ℕ) (sp len : ℕ) (f : ReduceFilter) (l : ℕ) → i < offsetAt q l → Level (λ c d. Has i v c) q src src sp len f l
 unfolding byte
 level-off {i} {v} q src sp len f l lt =
     record {
       by-fused = λ e. fused-kept any-bytes (byte i v) (offsetAt q (l - 1)) (q .pitch) (regionAt q l) (fused-fits q len l e) (λ y m. inl (omega arith)) (λ y m. reads-all (λ at n. tt));
-      by-stored = λ e. stored-kept any-bytes (byte i v) f (offsetAt q (l - 1)) (q .pitch) (regionAt q l) (λ y m. inl (omega arith)) (λ y m. tt) (λ y m. reads-all (λ at n. tt));
+      by-stored = λ e. stored-off f (offsetAt q (l - 1)) (q .pitch) (regionAt q l) (λ y m. inl (omega arith));
       by-source = λ e. source-kept any-bytes (byte i v) f src src sp (q .pitch) (regionAt q l) any-row (λ y m. inl (omega arith)) (λ y m. tt) (λ y some m. (tt, inl (omega arith)));
     }
 

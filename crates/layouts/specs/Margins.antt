@@ -25,9 +25,13 @@ cubicFits base p t len =
 unfoldable pub fusedAt : Layout → ℕ → ℕ → Bool
 fusedAt q len l = isNat (q .opts .«scale_down») 4 && (q .opts .full || leb 2 l) && cubicFits (offsetAt q (l - 1)) (q .pitch) (regionAt q l) len
 
+-- zeros from a column on to the pitch, in each row of level t
+unfoldable pub clearFrom : ℕ → Region → ℕ → List ℕ → List ℕ
+clearFrom column t p c = steps (λ y d. put d (t .offset + y * p + column) (replicate (p - column) 0)) (t .height) c
+
 -- "zeroes from width to pitch"
-unfoldable pub clearRows : Region → ℕ → List ℕ → List ℕ
-clearRows t p c = steps (λ y d. put d (t .offset + y * p + t .width) (replicate (p - t .width) 0)) (t .height) c
+abbrev pub clearRows : Region → ℕ → List ℕ → List ℕ
+clearRows t p c = clearFrom (t .width) t p c
 
 unfoldable pub clearLevel : Layout → ℕ → List ℕ → List ℕ
 clearLevel q l c = cond (fusedAt q (length c) l) c (clearRows (regionAt q l) (q .pitch) c)

@@ -1,6 +1,6 @@
 -- A build that isn't refused: what its stages need of the slices is there; what the fused cubic was taken for; last a later level, in its way. Assumes nothing.
 use mathlib.Core.Path.{_≡_, refl, sym, ap, subst, _∙_}
-use mathlib.Core.Bool.{true, false, _&&_, _||_}
+use mathlib.Core.Bool.{Bool, true, false, _&&_, _||_}
 use mathlib.Core.List.{List, _++_}
 use mathlib.Core.Logic.{_⊎_, inl, inr, ⊎-elim}
 use Prim.Native.Nat.{ℕ, suc, _+_, _*_, _-_, _%_, _≤_, _<_}
@@ -74,38 +74,55 @@ module _ (q : Layout) {n sp len spill scratch : ℕ} (r : Ready q n sp len spill
       }
 
 -- ---- what the fused cubic was taken for
-module _ (q : Layout) (len l : ℕ) (e : fusedAt q len l ≡ true) where
-  both : ((isNat (q .opts .«scale_down») 4 && (q .opts .full || leb 2 l)) && cubicFits (offsetAt q (l - 1)) (q .pitch) (regionAt q l) len) ≡ true
-  unfolding fusedAt
-  both = e
-
-  pub fused-stored : (q .opts .full || leb 2 l) ≡ true
-  fused-stored = and-right (isNat (q .opts .«scale_down») 4) (q .opts .full || leb 2 l) (and-left (isNat (q .opts .«scale_down») 4 && (q .opts .full || leb 2 l)) (cubicFits (offsetAt q (l - 1)) (q .pitch) (regionAt q l) len) both)
-
+module _ (base p : ℕ) (t : Region) (len : ℕ) (e : cubicFits base p t len ≡ true) where
   -- what it says of a row
-  row-says : (leb 8 (widthAt q l) && leb 2 (heightAt q l) && eqb (2 * widthAt q l % 8) 0 && leb (2 * widthAt q l) (q .pitch)) ≡ true
+  row-says : (leb 8 (t .width) && leb 2 (t .height) && eqb (2 * t .width % 8) 0 && leb (2 * t .width) p) ≡ true
   unfolding cubicFits
   row-says =
-      let w = widthAt q l in
-      let h = heightAt q l in
-      let p = q .pitch in
+      let w = t .width in
+      let h = t .height in
       let row = leb 8 w && leb 2 h && eqb (2 * w % 8) 0 && leb (2 * w) p in
-      let source = leb (offsetAt q (l - 1) + (2 * h - 1) * p + 2 * w) (offsetAt q l) in
-      let target = leb (offsetAt q l + (h - 1) * p + 2 * w) len in
-      let all : (row && source && target) ≡ true = and-right (isNat (q .opts .«scale_down») 4 && (q .opts .full || leb 2 l)) (cubicFits (offsetAt q (l - 1)) p (regionAt q l) len) both in
-      and-left row source (and-left (row && source) target all)
+      let source = leb (base + (2 * h - 1) * p + 2 * w) (t .offset) in
+      let target = leb (t .offset + (h - 1) * p + 2 * w) len in
+      and-left row source (and-left (row && source) target e)
 
   -- it is of whole eights
-  pub fused-whole : wholeOf Cubic (2 * widthAt q l) ≡ 2 * widthAt q l
-  fused-whole =
-      let n = 2 * widthAt q l in
-      let large = leb 8 (widthAt q l) && leb 2 (heightAt q l) in
-      let zero' = eqb-true (n % 8) 0 (and-right large (eqb (n % 8) 0) (and-left (large && eqb (n % 8) 0) (leb n (q .pitch)) row-says)) in
+  pub cubic-whole : wholeOf Cubic (2 * t .width) ≡ 2 * t .width
+  cubic-whole =
+      let n = 2 * t .width in
+      let large = leb 8 (t .width) && leb 2 (t .height) in
+      let zero' = eqb-true (n % 8) 0 (and-right large (eqb (n % 8) 0) (and-left (large && eqb (n % 8) 0) (leb n p) row-says)) in
       omega arith
 
   -- and no longer than the pitch
+  cubic-narrow : 2 * t .width ≤ p
+  cubic-narrow = let n = 2 * t .width in leb-true n p (and-right (leb 8 (t .width) && leb 2 (t .height) && eqb (n % 8) 0) (leb n p) row-says)
+
+module _ (q : Layout) (len l : ℕ) (e : fusedAt q len l ≡ true) where
+  abbrev four : Bool
+  four = isNat (q .opts .«scale_down») 4
+
+  abbrev stored : Bool
+  stored = q .opts .full || leb 2 l
+
+  abbrev fits : Bool
+  fits = cubicFits (offsetAt q (l - 1)) (q .pitch) (regionAt q l) len
+
+  both : (four && stored && fits) ≡ true
+  unfolding fusedAt
+  both = e
+
+  pub fused-four : isNat (q .opts .«scale_down») 4 ≡ true
+  fused-four = and-left four stored (and-left (four && stored) fits both)
+
+  pub fused-stored : (q .opts .full || leb 2 l) ≡ true
+  fused-stored = and-right four stored (and-left (four && stored) fits both)
+
+  pub fused-whole : wholeOf Cubic (2 * widthAt q l) ≡ 2 * widthAt q l
+  fused-whole = cubic-whole (offsetAt q (l - 1)) (q .pitch) (regionAt q l) len (and-right (four && stored) fits both)
+
   pub fused-fits : 2 * widthAt q l ≤ q .pitch
-  fused-fits = let n = 2 * widthAt q l in leb-true n (q .pitch) (and-right (leb 8 (widthAt q l) && leb 2 (heightAt q l) && eqb (n % 8) 0) (leb n (q .pitch)) row-says)
+  fused-fits = cubic-narrow (offsetAt q (l - 1)) (q .pitch) (regionAt q l) len (and-right (four && stored) fits both)
 
 -- ---- a later level, in its way
 stored-before : (q : Layout) (l : ℕ) → 1 ≤ l → (q .opts .full || leb 2 l) ≡ true → (q .opts .full ≡ true) ⊎ (1 ≤ l - 1)

@@ -5,7 +5,7 @@ use native.Mathlib.Omega.{arith}
 use lib.ListN.{length, replicate}
 use borrow.Author.Needs.{needs}
 use Rattle.layouts.specs.Storing.{put}
-use Rattle.layouts.specs.Margins.{clearRows}
+use Rattle.layouts.specs.Margins.{clearFrom}
 use Rattle.layouts.proofs.Loops.{put-zeros, row-in, Walked, walked-none, walked-more, walked-whole, next-fits, next-less}
 use Rattle.layouts.proofs.margins.clear_rows.Statement.{statement}
 use Rattle.layouts.proofs.margins.clear_rows.Tie as tie
@@ -71,7 +71,7 @@ same-length : tie.Need-same-length Inv-loop μ-loop
 same-length c = c .before .loop .inv .same
 
 returns : tie.Need-returns Inv-loop μ-loop
-unfolding clearRows
+unfolding clearFrom
 returns c = walked-whole (c .before .loop .inv) (c .loop-test .left)
 
 pub clear-rows-spec : {M : Type 1} → statement M

@@ -1,0 +1,7 @@
+-- What is proved of the two cubic paths, from the general to the special:
+--     Swaps      stores that can be made in either order, and loops that can be parted
+--     Equation   the fused cubic is the generic one with the rows' margins zeroed
+--     Picture    order 2's sentences, of one level: about the definitions, and about the two functions
+pub mod Swaps
+pub mod Equation
+pub mod Picture

@@ -1,0 +1,132 @@
+-- Order 2's sentences (`OnePicture` of specs/Paths.antt), of a level that both ways can make in a frame that building accepts. Assumes nothing.
+-- First what zeroing margins and generic halving leave as it is; then the equation and the sentences, about the definitions; last about the two functions, whose contracts stand there beside `Post`, what the checker itself reads of a call's `ensures`.
+use mathlib.Core.Path.{_≡_, refl, sym, ap, _∙_}
+use mathlib.Core.List.{List}
+use mathlib.Core.Logic.{_⊎_, inl, inr, ⊎-elim}
+use Prim.Native.Nat.{ℕ, _+_, _*_, _-_, _≤_, _<_}
+use native.Mathlib.Nat.{eq-or-lt-of-le}
+use native.Mathlib.Omega.{arith}
+use lib.ListN.{length, getD, replicate, length-replicate, getD-replicate}
+use contract.Lifetimes.{Lfts}
+use denote.Ref.{now}
+use Rattle.settings.proofs.Outcome.{Contract, Promises}
+use Rattle.filters.specs.declared.halving.ReduceFilter.the-variants.{Cubic}
+use Rattle.filters.proofs.Tests.{below-or}
+use Rattle.layouts.specs.declared.layout.Layout.{Layout}
+use Rattle.layouts.specs.declared.layout.Region.{Region}
+use Rattle.layouts.specs.Storing.{put, steps}
+use Rattle.layouts.specs.Layout.{widthAt, heightAt, offsetAt, regionAt}
+use Rattle.layouts.specs.Margins.{clearFrom}
+use Rattle.layouts.proofs.Loops.{row-in}
+use Rattle.builder.specs.Halving.{wholeOf, fromStored, fused}
+use Rattle.builder.specs.Room.{Within}
+use Rattle.builder.proofs.Runs.{put-at, put-before, put-length}
+use Rattle.builder.proofs.Halves.{row-within}
+use Rattle.builder.proofs.halving.reduce_cubic.Reads as reduce-cubic-reads
+use Rattle.builder.proofs.halving.reduce_within.Reads as reduce-within-reads
+use Rattle.planes.proofs.Prepared.{cubic-whole, within-here}
+use Rattle.planes.proofs.Whole.{ready}
+use Rattle.demands.proofs.Enough.{stored-length}
+use Rattle.demands.proofs.Kept.{Has, Off, KeepsByte, has-after, steps-keep, steps-hit, stored-off, clear-off}
+use Rattle.demands.proofs.Demand.{both-ways}
+use Rattle.paths.specs.Paths.{fusedHalving, genericHalving, BothWays, ForLevel, MarginsZeroed, placeAt, OnePicture}
+use Rattle.paths.proofs.Equation.{two-paths}
+
+-- rows p apart from o on: column j of row y, and the columns from a to e of row z
+pub off-row : (o p y z j a e : ℕ) → j < p → a ≤ e → e ≤ p → (y ≡ z → (j < a) ⊎ (e ≤ j)) → Off (o + y * p + j) (o + z * p + a) (e - a)
+off-row o p y z j a e in' le fits same =
+    ⊎-elim
+    (λ (lt : y < z). inl (omega (arith, row-in y z p lt)))
+    (λ (from : z ≤ y).
+    ⊎-elim
+    (λ (eq : z ≡ y). let e' : z * p ≡ y * p = ap (λ (k : ℕ). k * p) eq in ⊎-elim (λ (b : j < a). inl (omega arith)) (λ (b : e ≤ j). inr (omega arith)) (same (sym eq)))
+    (λ (lt : z < y). inr (omega (arith, row-in z y p lt)))
+    (eq-or-lt-of-le from))
+    (below-or y z)
+
+module _ {len scratch base p : ℕ} {t : Region} (w : Within len scratch base p t) where
+  abbrev n : ℕ
+  n = 2 * t .width
+
+  abbrev zeros : List ℕ
+  zeros = replicate (p - n) 0
+
+  -- row y, column j
+  abbrev place : ℕ → ℕ → ℕ
+  place y j = t .offset + y * p + j
+
+  zeros-long : length zeros ≡ p - n
+  zeros-long = length-replicate (p - n) 0
+
+  -- ---- zeroing margins
+  clear-long : (d : List ℕ) → length d ≡ len → length (clearFrom n t p d) ≡ len
+  unfolding clearFrom
+  clear-long d e = steps-keep (λ x. length x ≡ len) _ (t .height) d (λ y x lt q. put-length x (place y n) zeros (omega (arith, row-within w lt, w .fits, zeros-long)) ∙ q) e
+
+  clear-zero : (d : List ℕ) (y j : ℕ) → y < t .height → n ≤ j → j < p → getD (clearFrom n t p d) (place y j) 0 ≡ 0
+  unfolding clearFrom
+  clear-zero d y j lt from to =
+      steps-hit (λ x. Unit) (λ x. getD x (place y j) 0 ≡ 0) _ (t .height) y d lt tt (λ z x l u. tt)
+      (λ x u.
+      let e : place y j ≡ place y n + (j - n) = omega arith in
+      ap (λ (k : ℕ). getD (put x (place y n) zeros) k 0) e ∙ put-at x zeros (place y n) (j - n) (omega (arith, zeros-long)) ∙ getD-replicate (p - n) (j - n) 0 0 (omega arith))
+      (λ z x l later e. put-before x zeros (place z n) (place y j) (omega (arith, row-in y z p later)) ∙ e)
+
+  -- ---- generic halving
+  -- a byte of a margin
+  pub margin-kept : (y j v : ℕ) → y < t .height → n ≤ j → j < p → KeepsByte (place y j) v (fromStored Cubic base p t)
+  margin-kept y j v lt from to =
+      stored-off Cubic base p t
+      (λ z m.
+      ⊎-elim (λ (a : place y j < place z 0). inl (omega arith)) (λ (b : place z 0 + (n - 0) ≤ place y j). inr (omega arith)) (off-row (t .offset) p y z j 0 n to (omega arith) (w .fits) (λ e. inr from)))
+
+  -- a byte that lies in no row of the level
+  others-kept : {i v : ℕ} → (i < t .offset) ⊎ (t .offset + t .height * p ≤ i) → KeepsByte i v (fromStored Cubic base p t) × KeepsByte i v (clearFrom n t p)
+  others-kept {i} apart =
+      let off : (z a k : ℕ) → z < t .height → a + k ≤ p → Off i (place z a) k = λ z a k m fits. ⊎-elim (λ (lt : i < t .offset). inl (omega arith)) (λ (le : t .offset + t .height * p ≤ i). inr (omega (arith, row-in z (t .height) p m))) apart in
+      (stored-off Cubic base p t (λ z m. ⊎-elim (λ (lt : i < place z 0). inl (omega arith)) (λ (le : place z 0 + n ≤ i). inr (omega arith)) (off z 0 n m (omega (arith, w .fits)))), clear-off n p t (λ z m. off z n (p - n) m (omega (arith, w .fits))))
+
+-- ---- about the definitions
+module _ (q : Layout) (l : ℕ) (c : List ℕ) (b : BothWays q (length c) l) where
+  -- what the two functions require of frame and level is there
+  pub both-met : Within (length c) (b .scratch) (offsetAt q (l - 1)) (q .pitch) (regionAt q l) × (wholeOf Cubic (2 * widthAt q l) ≡ 2 * widthAt q l)
+  both-met =
+      (within-here q (ready q (b .source) (b .«src_pitch») (length c) (b .spill) (b .scratch) (b .accepts)) l (b .later) (b .there) refl refl (b .stored), cubic-whole (offsetAt q (l - 1)) (q .pitch) (regionAt q l) (length c) (b .fits))
+
+  pub one-equation : MarginsZeroed q l (fusedHalving q l c) (genericHalving q l c)
+  one-equation = two-paths (both-met .0) (both-met .1) c refl
+
+  pub one-picture : OnePicture q l c (fusedHalving q l c) (genericHalving q l c)
+  one-picture =
+      let w = both-met .0 in
+      let g = genericHalving q l c in
+      let long = stored-length w Cubic c refl in
+      let cleared : (i : ℕ) → getD (fusedHalving q l c) i 0 ≡ getD (clearFrom (2 * widthAt q l) (regionAt q l) (q .pitch) g) i 0 = λ i. ap (λ (x : List ℕ). getD x i 0) one-equation in
+      record {
+        fused-long = ap length one-equation ∙ clear-long w g long;
+        generic-long = long;
+        agree = λ y j lt in'.
+            cleared (placeAt q l y j)
+            ∙ has-after {c = g} (clear-off (2 * widthAt q l) (q .pitch) (regionAt q l) (λ z m. off-row (offsetAt q l) (q .pitch) y z j (2 * widthAt q l) (q .pitch) (omega (arith, w .fits)) (w .fits) (omega arith) (λ e. inl in')))
+            (record { there = omega (arith, long, row-within w lt, w .fits); is = refl }) .is;
+        zeroed = λ y j lt from to. cleared (placeAt q l y j) ∙ clear-zero w g y j lt from to;
+        kept = λ y j lt from to. has-after {c = c} (margin-kept w y j (getD c (placeAt q l y j) 0) lt from to) (record { there = omega (arith, row-within w lt); is = refl }) .is;
+        others = λ i lt apart.
+            let k = others-kept w {i = i} {v = getD c i 0} apart in
+            let has : Has i (getD c i 0) g = has-after (k .0) (record { there = lt; is = refl }) in
+            (cleared i ∙ has-after (k .1) has .is, has .is);
+      }
+
+-- ---- about the functions: frame, scratch, base, pitch and target; before them, of `reduce_within`, the filter
+pub reduce-cubic-contract : (κs : Lfts 2) → Contract (reduce-cubic-reads.Post κs) (λ x u e. now (e .0) ≡ fused (x .1 .1 .0) (x .1 .1 .1 .0) (x .1 .1 .1 .1 .0) (now (x .0)))
+reduce-cubic-contract κs x u e = both-ways
+
+pub reduce-within-contract : (κs : Lfts 2) → Contract (reduce-within-reads.Post κs) (λ x u e. now (e .1 .0) ≡ fromStored (x .0) (x .1 .1 .1 .0) (x .1 .1 .1 .1 .0) (x .1 .1 .1 .1 .1 .0) (now (x .1 .0)))
+reduce-within-contract κs x u e = both-ways
+
+-- called for level l of q on one frame
+pub functions-picture : (κs κs' : Lfts 2) (q : Layout) (l : ℕ) → Promises (reduce-cubic-reads.Post κs) (λ x u f. Promises (reduce-within-reads.Post κs') (λ y v g. BothWays q (length (now (x .0))) l → ForLevel q l (x .1 .1 .0) (x .1 .1 .1 .0) (x .1 .1 .1 .1 .0) → ForLevel q l (y .1 .1 .1 .0) (y .1 .1 .1 .1 .0) (y .1 .1 .1 .1 .1 .0) → y .0 ≡ Cubic → now (y .1 .0) ≡ now (x .0) → OnePicture q l (now (x .0)) (now (f .0)) (now (g .1 .0))))
+functions-picture κs κs' q l x u f p y v g p' b here here' cubic same =
+    let by-fused : now (f .0) ≡ fusedHalving q l (now (x .0)) = reduce-cubic-contract κs x u f .0 p ∙ rw (here .base-is, here .pitch-is, here .target-is) refl in
+    let by-rows : now (g .1 .0) ≡ genericHalving q l (now (x .0)) = reduce-within-contract κs' y v g .0 p' ∙ rw (cubic, here' .base-is, here' .pitch-is, here' .target-is, same) refl in
+    rw (by-fused, by-rows) (one-picture q l (now (x .0)) b)
