@@ -4,19 +4,15 @@ use mathlib.Core.List.{List, _++_}
 use Prim.Native.Nat.{ℕ, _+_, _≤_}
 use native.Mathlib.Omega.{arith}
 use lib.ListN.{length, replicate, length-append, length-replicate}
-use Rattle.filters.specs.declared.halving.ReduceFilter.{ReduceFilter}
 use Rattle.filters.specs.Refine.{upscale}
 use Rattle.layouts.specs.declared.layout.Layout.{Layout}
-use Rattle.layouts.specs.declared.layout.Region.{Region}
 use Rattle.layouts.specs.Layout.{spillNeed}
 use Rattle.layouts.specs.Refusals.{buildNo}
 use Rattle.layouts.specs.Room.{Ready}
-use Rattle.builder.specs.Halving.{fromStored}
-use Rattle.builder.specs.Room.{Within}
 use Rattle.builder.proofs.Runs.{put-length}
 use Rattle.builder.proofs.Related.{Any, any-bytes, any-ups, any-row}
-use Rattle.builder.proofs.Stages.{Notion}
-use Rattle.builder.proofs.Placed.{Allows, stored-placed}
+use Rattle.builder.proofs.Stages.{Keeps, Notion}
+use Rattle.builder.proofs.Placed.{Allows}
 use Rattle.planes.specs.Build.{built}
 use Rattle.planes.proofs.Whole.{ready}
 use Rattle.planes.proofs.Built.{built-placed}
@@ -33,20 +29,14 @@ lengths long =
       stores = λ c d x y at n r fits lx ly z. put-length c at x (omega arith) ∙ r;
     }
 
-lengths-allow : (long : ℕ) → Allows (lengths long) long
+-- a stage that stores in `long` bytes alone leaves as many
+pub length-kept : {long : ℕ} {stage : List ℕ → List ℕ} → ((N : Notion Any) → Allows N long → Keeps (N .R) stage) → (c : List ℕ) → length c ≡ long → length (stage c) ≡ long
 unfolding lengths
-lengths-allow long = record { sees = λ at n fits. tt; takes = λ at n fits. fits }
-
--- a level from a stored one
-pub stored-length : {len scratch base p : ℕ} {t : Region} → Within len scratch base p t → (f : ReduceFilter) (c : List ℕ) → length c ≡ len → length (fromStored f base p t c) ≡ len
-unfolding lengths
-stored-length {len = len} w f c e = stored-placed any-bytes (lengths-allow len) w f .each c c e
+length-kept {long} keeps c e = keeps (lengths long) (record { sees = λ at n fits. tt; takes = λ at n fits. fits }) .each c c e
 
 -- nothing is stored past frame and spill
 keeps-built : (q : Layout) {n sp len spill scratch : ℕ} → Ready q n sp len spill scratch → (src c : List ℕ) → length c ≡ len + spill → length (built q src sp len c) ≡ len + spill
-unfolding lengths
-keeps-built q {len = len} {spill = spill} r src c e =
-    built-placed any-bytes q src src r (lengths-allow (len + spill)) any-row (λ z. any-ups (upscale (q .opts .«scale_up»))) .each c c e
+keeps-built q r src c e = length-kept (λ N A. built-placed any-bytes q src src r A any-row (λ z. any-ups (upscale (q .opts .«scale_up»)))) c e
 
 -- ---- the law
 pub spill-enough : (q : Layout) (sp scratch : ℕ) (src F S : List ℕ) → Ready q (length src) sp (length F) (length S) scratch → length (built q src sp (length F) (F ++ S)) ≡ length F + length S

@@ -10,6 +10,7 @@ use lib.ListN.{length, getD, replicate, length-replicate, getD-replicate}
 use contract.Lifetimes.{Lfts}
 use denote.Ref.{now}
 use Rattle.settings.proofs.Outcome.{Contract, Promises}
+use Rattle.filters.specs.declared.halving.ReduceFilter.{ReduceFilter}
 use Rattle.filters.specs.declared.halving.ReduceFilter.the-variants.{Cubic}
 use Rattle.filters.proofs.Tests.{below-or}
 use Rattle.layouts.specs.declared.layout.Layout.{Layout}
@@ -22,11 +23,13 @@ use Rattle.builder.specs.Halving.{wholeOf, fromStored, fused}
 use Rattle.builder.specs.Room.{Within}
 use Rattle.builder.proofs.Runs.{put-at, put-before, put-length}
 use Rattle.builder.proofs.Halves.{row-within}
+use Rattle.builder.proofs.Related.{any-bytes}
+use Rattle.builder.proofs.Placed.{stored-placed}
 use Rattle.builder.proofs.halving.reduce_cubic.Reads as reduce-cubic-reads
 use Rattle.builder.proofs.halving.reduce_within.Reads as reduce-within-reads
 use Rattle.planes.proofs.Prepared.{cubic-whole, within-here}
 use Rattle.planes.proofs.Whole.{ready}
-use Rattle.demands.proofs.Enough.{stored-length}
+use Rattle.demands.proofs.Enough.{length-kept}
 use Rattle.demands.proofs.Kept.{Has, Off, KeepsByte, has-after, steps-keep, steps-hit, stored-off, clear-off}
 use Rattle.demands.proofs.Demand.{both-ways}
 use Rattle.paths.specs.Paths.{fusedHalving, genericHalving, BothWays, ForLevel, MarginsZeroed, placeAt, OnePicture}
@@ -73,6 +76,9 @@ module _ {len scratch base p : ℕ} {t : Region} (w : Within len scratch base p 
       (λ z x l later e. put-before x zeros (place z n) (place y j) (omega (arith, row-in y z p later)) ∙ e)
 
   -- ---- generic halving
+  pub stored-long : (f : ReduceFilter) (c : List ℕ) → length c ≡ len → length (fromStored f base p t c) ≡ len
+  stored-long f c e = length-kept (λ N A. stored-placed any-bytes A w f) c e
+
   -- a byte of a margin
   pub margin-kept : (y j v : ℕ) → y < t .height → n ≤ j → j < p → KeepsByte (place y j) v (fromStored Cubic base p t)
   margin-kept y j v lt from to =
@@ -100,7 +106,7 @@ module _ (q : Layout) (l : ℕ) (c : List ℕ) (b : BothWays q (length c) l) whe
   one-picture =
       let w = both-met .0 in
       let g = genericHalving q l c in
-      let long = stored-length w Cubic c refl in
+      let long = stored-long w Cubic c refl in
       let cleared : (i : ℕ) → getD (fusedHalving q l c) i 0 ≡ getD (clearFrom (2 * widthAt q l) (regionAt q l) (q .pitch) g) i 0 = λ i. ap (λ (x : List ℕ). getD x i 0) one-equation in
       record {
         fused-long = ap length one-equation ∙ clear-long w g long;

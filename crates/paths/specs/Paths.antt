@@ -68,6 +68,6 @@ pub record OnePicture (q : Layout) (l : ℕ) (c f g : List ℕ) : Type 0 where
 abbrev pub ZeroMargins : Layout → ℕ → List ℕ → Type 0
 ZeroMargins q l c = (y j : ℕ) → y < heightAt q l → 2 * widthAt q l ≤ j → j < q .pitch → getD c (placeAt q l y j) 0 ≡ 0
 
--- and in each level that the fused path makes in the frame c: so in a frame of zeros
-abbrev pub FusedMarginsZero : Layout → List ℕ → Type 0
-FusedMarginsZero q c = (l : ℕ) → 1 ≤ l → l < levelsOf q → fusedAt q (length c) l ≡ true → ZeroMargins q l c
+-- and in each level that the fused path makes in a frame of len bytes: so in a frame of zeros
+abbrev pub FusedMarginsZero : Layout → ℕ → List ℕ → Type 0
+FusedMarginsZero q len c = (l : ℕ) → 1 ≤ l → l < levelsOf q → fusedAt q len l ≡ true → ZeroMargins q l c
