@@ -1,6 +1,7 @@
 //! Cases about whole builds, and the Rust's answers. The form of a case is in crates/replay_builds/src/main.rt.
-//! First what a case is and what answers it; then what cases are made; last the search for the first case that differs.
+//! First what a case is and what answers it; then what cases are made; then the search for the first case that differs; last the two cubic paths beside each other.
 
+use crate::generic;
 use crate::layout::laid_out;
 use crate::met::Met;
 use crate::random::Random;
@@ -28,6 +29,8 @@ const LENGTHS: usize = 16;
 const WHOLE: usize = 20;
 const MADE: usize = 21;
 const SEED: usize = 22;
+/// Whether the fused path is off.
+const GENERIC: usize = 23;
 
 /// The bytes that a seed makes.
 fn made(seed: u32, lengths: [usize; 3]) -> [Vec<u8>; 3] {
@@ -92,7 +95,8 @@ fn built(c: &Case) -> (u32, [Vec<u8>; 3]) {
     let [mut frame, spill, scratch] = c.lent.clone();
     match judged(w) {
         Ok(r) => {
-            sb::build(&mut frame, &r, w[13] as usize, (w[10], w[11]), &c.source, w[SOURCE_PITCH + 1] as usize);
+            let build = if w[GENERIC] == 0 { sb::build } else { generic::build };
+            build(&mut frame, &r, w[13] as usize, (w[10], w[11]), &c.source, w[SOURCE_PITCH + 1] as usize);
             (0, [frame, vec![0; spill.len()], vec![0; scratch.len()]])
         }
         Err(number) => (number, [frame, spill, scratch]),
@@ -268,6 +272,18 @@ fn whole(rng: &mut Random, turn: u64) -> Plan {
     }
 }
 
+/// Sizes at which the fused path is taken, for one level or more, and some at which it isn't.
+fn generic(rng: &mut Random, turn: u64) -> Plan {
+    let width = match turn % 4 { 0 => 16 + rng.below(32) as u32, 1 => 8 * (2 + rng.below(15) as u32), _ => 8 * (2 + rng.below(6) as u32) };
+    let height = 8 + rng.below(if turn % 4 == 1 { 120 } else { 40 }) as u32;
+    let pel = rng.pick(&[1, 1, 1, 2, 4]);
+    let full = pel > 1 || rng.below(2) == 0;
+    let r = record(pel, rng.pick(&[0, 0, 1, 2]), rng.pick(&[4, 4, 4, 4, 4, 4, 3, 5]), rng.pick(&[0, 1, 2]), full, width, height);
+    let mut plan = planned(rng, r);
+    if rng.below(4) != 0 { plan.shifts = (0, 0); }
+    plan
+}
+
 /// A side of up to 16,384 and a small one, and usual pictures, as far as the replay holds them.
 fn large(rng: &mut Random, turn: u64) -> Plan {
     loop {
@@ -315,12 +331,16 @@ fn hard() -> Vec<Case> {
 
 const NUMBERS: std::ops::RangeInclusive<u32> = 6..=13;
 
+/// So many of the kept cases are built with the fused path off.
+const KEPT_GENERIC: u64 = 32;
+
 /// Each number alone, and each two of them.
 fn faults() -> Vec<Vec<u32>> {
     NUMBERS.flat_map(|a| NUMBERS.filter(move |&b| a <= b).map(move |b| if a == b { vec![a] } else { vec![a, b] })).collect()
 }
 
-/// Kinds: `halving` and `whole`, some with one or two faults; `large`; `kept`, the hard cases, every two faults and then small sizes of both kinds.
+/// Kinds: `halving`, `whole` and `generic`, some with one or two faults; `large`; `kept`, the hard cases, every two faults, small sizes of the first two kinds and then some of the third.
+/// Of kind `generic` the fused path is off, and every other frame holds zeros.
 pub fn cases(seed: u64, count: u64, kind: &str) {
     let mut rng = Random(seed);
     let rng = &mut rng;
@@ -341,20 +361,26 @@ pub fn cases(seed: u64, count: u64, kind: &str) {
             write(&mut out, &filled(rng, c));
         }
     }
-    for turn in 0..count {
+    for turn in 0..count + if kind == "kept" { KEPT_GENERIC } else { 0 } {
+        let generically = kind == "generic" || turn >= count;
         let plan = match (kind, turn % 2) {
             ("halving", _) => halving(rng, turn),
             ("whole", _) => whole(rng, turn),
             ("large", _) => large(rng, turn),
+            _ if generically => generic(rng, turn),
             // odd turns: the sizes are drawn
             ("kept", 0) => halving(rng, turn + 1),
             ("kept", _) => whole(rng, turn),
-            _ => panic!("kinds: halving, whole, large, kept"),
+            _ => panic!("kinds: halving, whole, generic, large, kept"),
         };
         let mut c = plan.case();
         if kind != "large" && rng.below(8) == 0 { spoilt(rng, &mut c, &faults[(turn % faults.len() as u64) as usize]); }
         c.words[WHOLE] = u32::from(kind != "large" && turn % 32 == 0);
-        let c = filled(rng, c);
+        let mut c = filled(rng, c);
+        if generically {
+            c.words[GENERIC] = 1;
+            if turn % 2 == 0 { c.words[SEED] = 0; }
+        }
         write(&mut out, &if kind != "large" && turn % 64 == 5 { told(c, 255, 255) } else { c });
     }
 }
@@ -386,4 +412,25 @@ pub fn pick(at: u64) {
     let mut c = read(&mut from).unwrap();
     c.words[WHOLE] = 1;
     write(&mut std::io::stdout().lock(), &c);
+}
+
+/// The Rust with its fused path on and off, over the cases on standard input: how many builds leave another frame, of full records and others, in frames of zeros and others.
+/// It panics where one of a full record in a frame of zeros does, and where none of another sort does: then the cases show nothing.
+pub fn paths() {
+    let mut from = BufReader::new(std::io::stdin().lock());
+    let mut counts = [[(0, 0); 2]; 2];
+    while let Some(mut c) = read(&mut from) {
+        if judged(&c.words).is_err() { continue; }
+        let [on, off] = [0, 1].map(|path| { c.words[GENERIC] = path; built(&c).1 });
+        let (builds, others) = &mut counts[usize::from(c.words[4] == 0)][usize::from(c.lent[0].iter().any(|&b| b != 0))];
+        *builds += 1;
+        *others += u64::from(on != off);
+    }
+    for (full, record) in counts.iter().zip(["full", "not full"]) {
+        for ((builds, others), frame) in full.iter().zip(["zeros", "other bytes"]) {
+            println!("{record}, in a frame of {frame}: {others} of {builds} builds leave another frame");
+        }
+    }
+    let [[same, a], [b, c]] = counts.map(|full| full.map(|(_, others)| others));
+    assert!(same == 0 && a > 0 && b > 0 && c > 0);
 }

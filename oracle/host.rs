@@ -1,4 +1,4 @@
-//! super_build.rs as it stands, and below it doors to its private items; nothing above them is changed.
+//! super_build.rs as it stands beside this file, and below it doors to its private items; nothing above them is changed.
 include!("super_build.rs");
 
 /// The filter that the Rust reads off a down setting, as document 01 lists them: 1 average, 2 bilinear, 3 quadratic, 4 cubic, 0 none.

@@ -1,4 +1,4 @@
-//! The Rust of open-svpflow, unchanged, answering cases as the Rattle programs do.
+//! The Rust of open-svpflow, unchanged, answering cases as the Rattle programs do; those that ask for the fused path off, by a copy of super_build.rs in which one condition is changed (scripts/oracle).
 //! `scripts/oracle` lays its files beside this one and builds it. Usage:
 //!     oracle settings-cases SEED COUNT    cases for `replay_settings`, a line each
 //!     oracle settings                     the Rust's answers to such cases, from standard input
@@ -8,10 +8,11 @@
 //!     oracle layout                       the Rust's answers to such cases, from standard input
 //!     oracle margins-cases SEED COUNT     cases for `replay_margins`
 //!     oracle margins                      the Rust's answers to such cases, from standard input
-//!     oracle builds-cases SEED COUNT KIND cases for `replay_builds`, of kind halving, whole, large or kept
+//!     oracle builds-cases SEED COUNT KIND cases for `replay_builds`, of kind halving, whole, generic, large or kept
 //!     oracle builds                       the Rust's answers to such cases, from standard input
 //!     oracle builds-differs FILE          the first of the answers in the file that isn't the Rust's
 //!     oracle builds-pick AT               one of the cases, with its whole frame asked for
+//!     oracle builds-paths                 how many of the cases leave another frame where the fused path is off
 //!     oracle words-cases SEED COUNT       words of accepted records, and damaged ones
 //!     oracle words-all                    every word of sides 1 to 24, and its neighbour
 //!     oracle words-packed                 what document 01 prints for each word that settings cases, from standard input, pack to
@@ -22,6 +23,8 @@ mod params;
 mod super_opts;
 #[path = "host.rs"]
 mod super_build;
+#[path = "generic/host.rs"]
+mod generic;
 
 mod analyse {
     // What `SuperOpts::from_params` names; its own file isn't part of what is ported.
@@ -59,6 +62,7 @@ fn main() {
         Some("builds") => builds::answers(),
         Some("builds-differs") => builds::differs(words.get(1).map_or_else(|| usage(), String::as_str)),
         Some("builds-pick") => builds::pick(number(1)),
+        Some("builds-paths") => builds::paths(),
         Some("words-cases") => words::cases(number(1), number(2)),
         Some("words-all") => words::all(),
         Some("words-packed") => words::packed(),
@@ -68,6 +72,6 @@ fn main() {
 }
 
 fn usage() -> ! {
-    eprintln!("usage: oracle SUBJECT-cases SEED COUNT [KIND] | oracle words-all | oracle words-packed | oracle builds-differs FILE | oracle builds-pick AT | oracle SUBJECT; SUBJECT: settings, rows, layout, margins, builds, words");
+    eprintln!("usage: oracle SUBJECT-cases SEED COUNT [KIND] | oracle words-all | oracle words-packed | oracle builds-differs FILE | oracle builds-pick AT | oracle builds-paths | oracle SUBJECT; SUBJECT: settings, rows, layout, margins, builds, words");
     std::process::exit(2)
 }

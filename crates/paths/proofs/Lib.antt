@@ -2,6 +2,8 @@
 --     Swaps      stores that can be made in either order, and loops that can be parted
 --     Equation   the fused cubic is the generic one with the rows' margins zeroed
 --     Picture    order 2's sentences, of one level: about the definitions, and about the two functions
+--     Builds     whole builds with the fused path on and off
 pub mod Swaps
 pub mod Equation
 pub mod Picture
+pub mod Builds
