@@ -28,7 +28,7 @@ use Rattle.layouts.specs.Margins.{fusedAt}
 use Rattle.layouts.specs.Refusals.{layoutNo, lentNo, buildNo}
 use Rattle.builder.specs.Refining.{refine}
 use Rattle.builder.proofs.Stages.{turns}
-use Rattle.planes.specs.Build.{planesOf, copied, halveLevel, halved, refines, refined, built, builtFrame}
+use Rattle.planes.specs.Build.{planesOf, copied, levelBy, halvedBy, builtBy, frameBy, halveLevel, halved, refines, refined, built}
 use Rattle.demands.specs.Demands.{Inputs, withLayout, SameBuild, withDown, withUp, Builds, leaves, Leaves}
 
 steps-none : (step : ℕ → List ℕ → List ℕ) (n : ℕ) (c : List ℕ) → n ≡ 0 → steps step n c ≡ c
@@ -36,13 +36,13 @@ unfolding steps
 steps-none step n c e = rw e
 
 halved-none : (q : Layout) (src : List ℕ) (sp len : ℕ) (ch : Chosen) (c : List ℕ) → levelsOf q ≤ 1 → halved q src sp len ch c ≡ c
-unfolding halved
+unfolding halvedBy
 halved-none q src sp len (Filter f) c le = steps-none (λ i. halveLevel q src sp len f (i + 1)) (levelsOf q - 1) c (omega arith)
 halved-none q src sp len NoFilter c le = refl
 
 -- down, with one level at most
 pub built-down : (r : SuperOpts) (d : ℤ) (g : Inputs) (len : ℕ) (c : List ℕ) → levelCount r ≤ 1 → built (withLayout (withDown r d) g) (g .plane) (g .«src_pitch») len c ≡ built (withLayout r g) (g .plane) (g .«src_pitch») len c
-unfolding built copied refined
+unfolding builtBy copied refined
 built-down r d g len c le =
     let first = cond (r .full) (copied (withLayout r g) (g .plane) (g .«src_pitch») c) c in
     rw (halved-none (withLayout (withDown r d) g) (g .plane) (g .«src_pitch») len (chosen d) first le, halved-none (withLayout r g) (g .plane) (g .«src_pitch») len (chosen (r .«scale_down»)) first le)
@@ -90,11 +90,11 @@ module _ (r : SuperOpts) (u : ℤ) (rc lean : Bool) (g : Inputs) (len : ℕ) whe
   still = changed r (r .«scale_down») u rc lean
 
   level-same : (f : ReduceFilter) (l : ℕ) (c : List ℕ) → halveLevel (withLayout still g) (g .plane) (g .«src_pitch») len f l c ≡ halveLevel (withLayout r g) (g .plane) (g .«src_pitch») len f l c
-  unfolding halveLevel fusedAt
+  unfolding levelBy fusedAt
   level-same f l c = let at = offset-same r (r .«scale_down») u rc lean g in rw (at l, at (l - 1))
 
   halved-same : (ch : Chosen) (c : List ℕ) → halved (withLayout still g) (g .plane) (g .«src_pitch») len ch c ≡ halved (withLayout r g) (g .plane) (g .«src_pitch») len ch c
-  unfolding halved
+  unfolding halvedBy
   halved-same (Filter f) c =
       steps-same (λ i. halveLevel (withLayout still g) (g .plane) (g .«src_pitch») len f (i + 1)) (λ i. halveLevel (withLayout r g) (g .plane) (g .«src_pitch») len f (i + 1)) (levelCount r - 1) c
       (λ i e. level-same f (i + 1) e)
@@ -102,7 +102,7 @@ module _ (r : SuperOpts) (u : ℤ) (rc lean : Bool) (g : Inputs) (len : ℕ) whe
 
 -- up, where it doesn't matter
 pub built-up : (r : SuperOpts) (u : ℤ) (g : Inputs) (len : ℕ) (c : List ℕ) → upMatters r ≡ false → built (withLayout (withUp r u) g) (g .plane) (g .«src_pitch») len c ≡ built (withLayout r g) (g .plane) (g .«src_pitch») len c
-unfolding built copied refined
+unfolding builtBy copied refined
 built-up r u g len c e =
     let first = cond (r .full) (copied (withLayout r g) (g .plane) (g .«src_pitch») c) c in
     let later = halved (withLayout r g) (g .plane) (g .«src_pitch») len (chosen (r .«scale_down»)) first in
@@ -112,7 +112,7 @@ built-up r u g len c e =
 
 -- rc and lean
 pub leaves-marks : (r : SuperOpts) (rc lean : Bool) (g : Inputs) → leaves (changed r (r .«scale_down») (r .«scale_up») rc lean) g ≡ leaves r g
-unfolding builtFrame built copied refined
+unfolding frameBy builtBy copied refined
 leaves-marks r rc lean g =
     let len = length (g .frame) in
     let c = g .frame ++ replicate (spillNeed (withLayout r g)) 0 in
@@ -129,7 +129,7 @@ told-up v r p = ap upscaleOpen (packs-canon v r p)
 -- ---- where the word doesn't leave a filter open, records alike but for it leave the same
 module _ (v : ℕ) (r : SuperOpts) (p : Packs v r) (g : Inputs) where
   pub down-same : (d : ℤ) → isNat d 4 ≡ isNat (r .«scale_down») 4 → halvingOpen (candidate v) ≡ false → leaves (withDown r d) g ≡ leaves r g
-  unfolding builtFrame
+  unfolding frameBy
   down-same d both e =
       ⊎-elim
       (λ (m : downMatters r ≡ false). ap (take (length (g .frame))) (built-down r d g (length (g .frame)) _ (omega (arith, leb-false 2 (levelCount r) m))))
@@ -139,7 +139,7 @@ module _ (v : ℕ) (r : SuperOpts) (p : Packs v r) (g : Inputs) where
       (and-off (downMatters r) (not (isNat (r .«scale_down») 4)) (sym (told-down v r p) ∙ e))
 
   pub up-same : (u : ℤ) → (isNat (r .gpu) 0 || isNat u 0) ≡ true → upscaleOpen (candidate v) ≡ false → leaves (withUp r u) g ≡ leaves r g
-  unfolding builtFrame
+  unfolding frameBy
   up-same u ok e =
       ⊎-elim
       (λ (m : upMatters r ≡ false). ap (take (length (g .frame))) (built-up r u g (length (g .frame)) _ m))

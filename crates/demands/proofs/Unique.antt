@@ -1,5 +1,6 @@
--- One outcome: no second answer, row, frame, spill or scratch meets the contract of a public call (`OneOutcome`), by one law (`determined`). The calls of `settings` and `longhands`, proved there, are named among the imports; then come the rows of `filters`, the inner calls of `settings`, `layouts` and `builder`, and last the public calls of `layouts` and `planes`. docs/EXCEPTIONS.md has those that aren't here. Assumes nothing.
+-- One outcome: no second answer, row, frame, spill or scratch meets the contract of a public call (`OneOutcome`), by one law (`determined`). The calls of `settings` and `longhands`, proved there, are named among the imports; then come the rows of `filters`, the inner calls of `settings`, `layouts` and `builder`, and last the public calls of `layouts` and `planes`, `build_plane` by the inner call that it makes. docs/EXCEPTIONS.md has those that aren't here. Assumes nothing.
 use mathlib.Core.Path.{_≡_, ap}
+use mathlib.Core.Bool.{true}
 use mathlib.Core.List.{List}
 use Prim.Native.Nat.{ℕ}
 use contract.Lifetimes.{Lfts}
@@ -41,6 +42,7 @@ use Rattle.layouts.proofs.margins.is_fused.Reads as is-fused-reads
 use Rattle.builder.proofs.canvas.put.Reads as put-reads
 use Rattle.builder.proofs.canvas.span.Reads as span-reads
 use Rattle.planes.proofs.build.build_plane.Reads as build-plane-reads
+use Rattle.planes.proofs.build.build_plane_by.Reads as build-plane-by-reads
 pub use Rattle.settings.proofs.Unique.{from-opt-unique, accepted-unique, pack-data-unique, super-height-unique, super-width-unique, read-word-unique, prepare-alike-unique, reduce-dim-unique, naturals-unique, number-unique, then-refuse-unique, is-fine-unique, natural-unique, bit-unique, to-bits-unique, from-bits-unique}
 pub use Rattle.longhands.proofs.Unique.{read-longhand-unique, write-longhand-unique}
 
@@ -146,11 +148,11 @@ pub clear-margins-unique : (κs : Lfts 1) → OneOutcome {O = Tested × List ℕ
 clear-margins-unique κs x r s e f p q = determined left-known {a = (r, now (e .0))} {b = (s, now (f .0))} p q
 
 -- the answer, the frame, and what spill and scratch are left as
-pub build-plane-unique : (κs : Lfts 4) → OneOutcome {O = Tested × List ℕ × List ℕ × List ℕ} (build-plane-reads.Post κs) (λ r e. (r, now (e .0), now (e .1 .0), now (e .1 .1 .0)))
-build-plane-unique κs x r s e f p q =
-    let frame = determined left-known {a = (r, now (e .0))} {b = (s, now (f .0))} (p .0) (q .0) in
-    let spill = determined left-known {a = (r, now (e .1 .0))} {b = (s, now (f .1 .0))} (p .1) (q .1) in
-    let scratch = determined left-known {a = (r, now (e .1 .1 .0))} {b = (s, now (f .1 .1 .0))} (p .2) (q .2) in
+pub build-plane-by-unique : (κs : Lfts 4) → OneOutcome {O = Tested × List ℕ × List ℕ × List ℕ} (build-plane-by-reads.Post κs) (λ r e. (r, now (e .1 .0), now (e .1 .1 .0), now (e .1 .1 .1 .0)))
+build-plane-by-unique κs x r s e f p q =
+    let frame = determined left-known {a = (r, now (e .1 .0))} {b = (s, now (f .1 .0))} (p .0) (q .0) in
+    let spill = determined left-known {a = (r, now (e .1 .1 .0))} {b = (s, now (f .1 .1 .0))} (p .1) (q .1) in
+    let scratch = determined left-known {a = (r, now (e .1 .1 .1 .0))} {b = (s, now (f .1 .1 .1 .0))} (p .2) (q .2) in
     rw (number frame, bytes frame, bytes spill, bytes scratch)
   where
     number : {a b : Tested × List ℕ} → a ≡ b → a .0 ≡ b .0
@@ -158,3 +160,6 @@ build-plane-unique κs x r s e f p q =
 
     bytes : {a b : Tested × List ℕ} → a ≡ b → a .1 ≡ b .1
     bytes = ap (λ (a : Tested × List ℕ). a .1)
+
+pub build-plane-unique : (κs : Lfts 4) → OneOutcome {O = Tested × List ℕ × List ℕ × List ℕ} (build-plane-reads.Post κs) (λ r e. (r, now (e .0), now (e .1 .0), now (e .1 .1 .0)))
+build-plane-unique κs x r s e f p q = build-plane-by-unique κs (true, x) r s (true, e) (true, f) p q

@@ -37,7 +37,7 @@ use Rattle.builder.specs.declared.refining.Interp.{Interp}
 use Rattle.builder.specs.Refining.{pairs, planeAt, halfPlanes, refine}
 use Rattle.builder.proofs.Refined.{pel-four}
 use Rattle.builder.proofs.Stages.{refine-kept}
-use Rattle.planes.specs.Build.{planesOf, copied, halveLevel, halved, refines, refined, built, builtFrame}
+use Rattle.planes.specs.Build.{planesOf, copied, levelBy, halvedBy, builtBy, frameBy, halveLevel, halved, refines, refined, built}
 use Rattle.planes.proofs.Parts.{halved-kept, refined-kept}
 use Rattle.demands.specs.Demands.{Inputs, leaves}
 use Rattle.demands.proofs.Kept.{Has, KeepsByte, has-after, Four, In, cases, steps-first, copied-grows, copied-has, copied-margin, copied-past, level-off, level-keeps, stored-first, source-first, plane-after, fold-keeps, half-keeps, half-means, half-kernel}
@@ -49,7 +49,7 @@ sizes r e lv = sides (lumaW r) (lumaW r) (lumaH r) 0 (omega (arith, ap toNat (fi
 
 -- ---- the stages of a build
 built-is : (Q : List ℕ → Type 0) (q : Layout) (src : List ℕ) (sp len : ℕ) (c : List ℕ) → 1 ≤ levelsOf q → Q (refined q (halved q src sp len (chosen (q .opts .«scale_down»)) (cond (q .opts .full) (copied q src sp c) c))) → Q (built q src sp len c)
-unfolding built
+unfolding builtBy
 built-is Q q src sp len c some x = rw (ne-eqb (levelsOf q) 0 (λ e. omega arith)) x
 
 -- a byte past all planes of level 0
@@ -159,7 +159,7 @@ module _ (x : SuperOpts) (good : accepted x ≡ true) (lv : 1 ≤ levelCount x) 
   h1-some = omega (arith, hh)
 
   frame-byte : (i v : ℕ) → i < end → Has i v (built q S W len canvas) → getD (leaves x (flat x end)) i 0 ≡ v
-  unfolding builtFrame
+  unfolding frameBy
   frame-byte i v lt has = getD-take len _ i 0 (omega (arith, length-replicate {A = ℕ} end 0)) ∙ has .is
 
   canvas-long : (n : ℕ) → n ≤ end → n ≤ length canvas
@@ -232,7 +232,7 @@ module _ (x : SuperOpts) (good : accepted x ≡ true) (lv : 1 ≤ levelCount x) 
 
     -- no filter
     left : Has t1 0 (halved q S W len NoFilter first)
-    unfolding halved
+    unfolding halvedBy
     left =
         let has = zeros-at end (spillNeed q) t1 (omega (arith, past-end)) in
         cases (Has t1 0) (x .full) (λ e. has-after (copied-past q S W (omega (arith, w-is)) (level1-past e)) has) (λ e. has)
@@ -254,7 +254,7 @@ module _ (x : SuperOpts) (good : accepted x ≡ true) (lv : 1 ≤ levelCount x) 
         cases (λ d. suc (t1 + 1) ≤ length d) (x .full) (λ e. copied-grows q S W (omega (arith, w-is)) (suc (t1 + 1)) canvas le) (λ e. le)
 
     level-one : isNat (x .«scale_down») 4 ≡ false → Has t1 255 (halveLevel q S W len Average 1 first)
-    unfolding halveLevel fusedAt
+    unfolding levelBy fusedAt
     level-one other =
         rw other
         (cases (Has t1 255) (x .full || false)
@@ -262,7 +262,7 @@ module _ (x : SuperOpts) (good : accepted x ≡ true) (lv : 1 ≤ levelCount x) 
         (λ e. source-first Average S W P (regionAt q 1) first (omega (arith, h1-some)) (omega (arith, w1-some)) (omega arith) long-first source-four))
 
     averaged : isNat (x .«scale_down») 4 ≡ false → Has t1 255 (halved q S W len (Filter Average) first)
-    unfolding halved
+    unfolding halvedBy
     averaged other =
         steps-first (Has t1 255) (λ i. halveLevel q S W len Average (i + 1)) (levelCount x - 1) first (omega arith) (level-one other)
         (λ y d m some has. has-after (level-keeps q S W len Average (y + 1) (omega (arith, level2-at, offset-mono q 2 (y + 1) (omega arith)))) has)

@@ -22,7 +22,7 @@ use Rattle.builder.specs.Refining.{refine}
 use Rattle.builder.proofs.Runs.{fetch-length}
 use Rattle.builder.proofs.Related.{Bytes, Rel, rel-fetch}
 use Rattle.builder.proofs.Stages.{Respects, Keeps, still, after, turns, either, Notion, store}
-use Rattle.planes.specs.Build.{planesOf, copied, halveLevel, halved, refines, refined, built}
+use Rattle.planes.specs.Build.{planesOf, copied, levelBy, halvedBy, builtBy, halveLevel, halved, refines, refined, built}
 
 pub copied-kept : {E : ℕ → ℕ → Type 0} (B : Bytes E) (N : Notion E) (q : Layout) (src src' : List ℕ) (sp : ℕ) → Rel E src src' → ((y : ℕ) → y < heightAt q 0 → N .Takes (y * q .pitch) (widthAt q 0)) → Respects (N .R) (copied q src sp) (copied q src' sp)
 unfolding copied
@@ -49,16 +49,16 @@ refined-kept q refining = either (refines q) refining (λ e. still)
 
 module _ {R : List ℕ → List ℕ → Type 0} (q : Layout) (src src' : List ℕ) (sp len : ℕ) where
   pub level-kept : (f : ReduceFilter) (l : ℕ) → Level R q src src' sp len f l → Respects R (halveLevel q src sp len f l) (halveLevel q src' sp len f l)
-  unfolding halveLevel
+  unfolding levelBy
   level-kept f l L = either (fusedAt q len l) (L .by-fused) (λ e. either (q .opts .full || leb 2 l) (L .by-stored) (L .by-source))
 
   pub halved-kept : ((f : ReduceFilter) (l : ℕ) → 1 ≤ l → l < levelsOf q → Level R q src src' sp len f l) → (k : Chosen) → Respects R (halved q src sp len k) (halved q src' sp len k)
-  unfolding halved
+  unfolding halvedBy
   halved-kept later (Filter f) = turns _ _ (levelsOf q - 1) (λ i lt. level-kept f (i + 1) (later f (i + 1) (omega arith) (omega arith)))
   halved-kept later NoFilter = still
 
   pub built-kept : Parts R q src src' sp len → Respects R (built q src sp len) (built q src' sp len)
-  unfolding built
+  unfolding builtBy
   built-kept P =
       either (eqb (levelsOf q) 0) (λ e. still)
       (λ e.

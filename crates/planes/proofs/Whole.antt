@@ -1,6 +1,6 @@
 -- A build, whole: what the refusals leave; level 0's rows and planes lie in the frame; the stages one after the other; and the frame that is left. Assumes nothing.
 use mathlib.Core.Path.{_≡_, refl, sym, ap, subst, _∙_}
-use mathlib.Core.Bool.{true, false, cond, _&&_, _||_}
+use mathlib.Core.Bool.{Bool, true, false, cond, _&&_, _||_}
 use mathlib.Core.List.{List, _++_}
 use mathlib.Core.Logic.{_⊎_, inl}
 use Prim.Native.Nat.{ℕ, _+_, _*_, _-_, _≤_, _<_}
@@ -32,7 +32,7 @@ use Rattle.builder.proofs.Related.{Bytes, Rel, same-bytes, rel-same}
 use Rattle.builder.proofs.Stages.{Respects, still, either, Notion}
 use Rattle.builder.proofs.Placed.{Allows}
 use Rattle.builder.proofs.Inside.{Inside, beside-allows, inside-by}
-use Rattle.planes.specs.Build.{planesOf, copied, halved, refines, refined, built, builtFrame}
+use Rattle.planes.specs.Build.{planesOf, copied, halvedBy, refines, refined, builtBy, frameBy}
 use Rattle.planes.proofs.Prepared.{source-need}
 use Rattle.planes.proofs.Parts.{copied-kept}
 
@@ -155,23 +155,23 @@ copied-placed B {N} q src src' {sp = sp} {len = len} r A same some full = copied
 first-inside : (q : Layout) (src : List ℕ) {n sp len spill scratch : ℕ} → Ready q n sp len spill scratch → 1 ≤ levelsOf q → Inside len (λ c. cond (q .opts .full) (copied q src sp c) c)
 first-inside q src {len = len} r some = inside-by (λ S. either (q .opts .full) (copied-placed same-bytes q src src r (beside-allows len S) (rel-same refl) some) (λ none. still))
 
-pub no-level : (q : Layout) (src c : List ℕ) (sp len : ℕ) → levelsOf q ≡ 0 → c ≡ built q src sp len c
-unfolding built
-no-level q src c sp len e = rw e
+pub no-level : (fuse : Bool) (q : Layout) (src c : List ℕ) (sp len : ℕ) → levelsOf q ≡ 0 → c ≡ builtBy fuse q src sp len c
+unfolding builtBy
+no-level fuse q src c sp len e = rw e
 
 -- F becomes F1 by level 0; F1 and S become c2 by the later levels, and c2 becomes c3 by refining
-pub all-stages : (q : Layout) {n sp spill scratch : ℕ} (src F S F1 c2 c3 : List ℕ) → Ready q n sp (length F) spill scratch → 1 ≤ levelsOf q → length F1 ≡ length F → F1 ≡ cond (q .opts .full) (copied q src sp F) F → c2 ≡ halved q src sp (length F1) (chosen (q .opts .«scale_down»)) (F1 ++ S) → c3 ≡ refined q c2 → c3 ≡ built q src sp (length F) (F ++ S)
-unfolding built
-all-stages q {n} {sp} src F S F1 c2 c3 r some kept e1 e2 e3 =
+pub all-stages : (fuse : Bool) (q : Layout) {n sp spill scratch : ℕ} (src F S F1 c2 c3 : List ℕ) → Ready q n sp (length F) spill scratch → 1 ≤ levelsOf q → length F1 ≡ length F → F1 ≡ cond (q .opts .full) (copied q src sp F) F → c2 ≡ halvedBy fuse q src sp (length F1) (chosen (q .opts .«scale_down»)) (F1 ++ S) → c3 ≡ refined q c2 → c3 ≡ builtBy fuse q src sp (length F) (F ++ S)
+unfolding builtBy
+all-stages fuse q {n} {sp} src F S F1 c2 c3 r some kept e1 e2 e3 =
     let f = chosen (q .opts .«scale_down») in
     let whole = ap (λ (x : List ℕ). x ++ S) e1 ∙ first-inside q src r some .aside F S refl in
     e3
-    ∙ ap (refined q) (e2 ∙ ap (λ (k : ℕ). halved q src sp k f (F1 ++ S)) kept ∙ ap (halved q src sp (length F) f) whole)
+    ∙ ap (refined q) (e2 ∙ ap (λ (k : ℕ). halvedBy fuse q src sp k f (F1 ++ S)) kept ∙ ap (halvedBy fuse q src sp (length F) f) whole)
     ∙ sym (cond-no (eqb (levelsOf q) 0) (F ++ S) _ (ne-eqb (levelsOf q) 0 (λ z. omega (arith, z, some))))
 
 -- ---- the frame that is left
-pub frame-left : (q : Layout) (src F G T Z : List ℕ) (sp : ℕ) → length G ≡ length F → Z ≡ replicate (spillNeed q) 0 → G ++ T ≡ built q src sp (length F) (F ++ Z) → G ≡ builtFrame q src sp F
-unfolding builtFrame
-frame-left q src F G T Z sp kept zeros e =
+pub frame-left : (fuse : Bool) (q : Layout) (src F G T Z : List ℕ) (sp : ℕ) → length G ≡ length F → Z ≡ replicate (spillNeed q) 0 → G ++ T ≡ builtBy fuse q src sp (length F) (F ++ Z) → G ≡ frameBy fuse q src sp F
+unfolding frameBy
+frame-left fuse q src F G T Z sp kept zeros e =
     sym (take-at G T (length F) kept)
-    ∙ ap (take (length F)) (e ∙ ap (λ (x : List ℕ). built q src sp (length F) (F ++ x)) zeros)
+    ∙ ap (take (length F)) (e ∙ ap (λ (x : List ℕ). builtBy fuse q src sp (length F) (F ++ x)) zeros)

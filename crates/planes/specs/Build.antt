@@ -1,7 +1,7 @@
--- Document 01, "How a plane is built": the whole, in the document's order; last its number and value.
+-- Document 01, "How a plane is built": the whole, in the document's order, with a switch for the fused path; then the document's own build, where it is on; last the number and value.
 use mathlib.Core.Path.{_≡_}
 use Prim.Native.Nat.{ℕ, _+_, _*_, _-_}
-use mathlib.Core.Bool.{Bool, cond, _&&_, _||_}
+use mathlib.Core.Bool.{Bool, true, cond, _&&_, _||_}
 use mathlib.Core.List.{List, _++_}
 use lib.Dec.{leb, ltb, eqb}
 use lib.ListN.{length, take, replicate}
@@ -32,16 +32,17 @@ unfoldable pub copied : Layout → List ℕ → ℕ → List ℕ → List ℕ
 copied q src sp c = steps (λ y d. put d (y * q .pitch) (fetch src (y * sp) (widthAt q 0))) (heightAt q 0) c
 
 -- level l, by the filter f, in a frame of len bytes: "Fused cubic is taken when the source level is stored and `cubic_fits` holds"; "Not full: level 1 comes from the source plane"
-unfoldable pub halveLevel : Layout → List ℕ → ℕ → ℕ → ReduceFilter → ℕ → List ℕ → List ℕ
-halveLevel q src sp len f l c =
+-- fuse: whether the fused path may be taken; document 01's build is the one where it may ("on")
+unfoldable pub levelBy : Bool → Layout → List ℕ → ℕ → ℕ → ReduceFilter → ℕ → List ℕ → List ℕ
+levelBy fuse q src sp len f l c =
     let base = offsetAt q (l - 1) in
-    cond (fusedAt q len l) (fused base (q .pitch) (regionAt q l) c)
+    cond (fuse && fusedAt q len l) (fused base (q .pitch) (regionAt q l) c)
     (cond (q .opts .full || leb 2 l) (fromStored f base (q .pitch) (regionAt q l) c) (fromSource f src sp (q .pitch) (regionAt q l) c))
 
 -- "any other value leaves later levels unwritten"
-unfoldable pub halved : Layout → List ℕ → ℕ → ℕ → Chosen → List ℕ → List ℕ
-halved q src sp len (Filter f) c = steps (λ i. halveLevel q src sp len f (i + 1)) (levelsOf q - 1) c
-halved q src sp len NoFilter c = c
+unfoldable pub halvedBy : Bool → Layout → List ℕ → ℕ → ℕ → Chosen → List ℕ → List ℕ
+halvedBy fuse q src sp len (Filter f) c = steps (λ i. levelBy fuse q src sp len f (i + 1)) (levelsOf q - 1) c
+halvedBy fuse q src sp len NoFilter c = c
 
 -- "Refining, after halving, if pel > 1, gpu < 2 and full."
 abbrev pub refines : Layout → Bool
@@ -51,14 +52,27 @@ unfoldable pub refined : Layout → List ℕ → List ℕ
 refined q c = cond (refines q) (refine (planesOf q) (pelOf (q .opts)) (upscale (q .opts .«scale_up»)) c) c
 
 -- the canvas c after a build in a frame of len bytes: "With no level, no frame byte is written."
-unfoldable pub built : Layout → List ℕ → ℕ → ℕ → List ℕ → List ℕ
-built q src sp len c =
+unfoldable pub builtBy : Bool → Layout → List ℕ → ℕ → ℕ → List ℕ → List ℕ
+builtBy fuse q src sp len c =
     let first = cond (q .opts .full) (copied q src sp c) c in
-    cond (eqb (levelsOf q) 0) c (first ▷ halved q src sp len (chosen (q .opts .«scale_down»)) ▷ refined q)
+    cond (eqb (levelsOf q) 0) c (first ▷ halvedBy fuse q src sp len (chosen (q .opts .«scale_down»)) ▷ refined q)
 
 -- "A byte stored past the frame goes to the spill", which holds zeros before; what is left is the frame
-unfoldable pub builtFrame : Layout → List ℕ → ℕ → List ℕ → List ℕ
-builtFrame q src sp f = take (length f) (built q src sp (length f) (f ++ replicate (spillNeed q) 0))
+unfoldable pub frameBy : Bool → Layout → List ℕ → ℕ → List ℕ → List ℕ
+frameBy fuse q src sp f = take (length f) (builtBy fuse q src sp (length f) (f ++ replicate (spillNeed q) 0))
+
+-- ---- document 01's own build: the switch is on
+abbrev pub halveLevel : Layout → List ℕ → ℕ → ℕ → ReduceFilter → ℕ → List ℕ → List ℕ
+halveLevel = levelBy true
+
+abbrev pub halved : Layout → List ℕ → ℕ → ℕ → Chosen → List ℕ → List ℕ
+halved = halvedBy true
+
+abbrev pub built : Layout → List ℕ → ℕ → ℕ → List ℕ → List ℕ
+built = builtBy true
+
+abbrev pub builtFrame : Layout → List ℕ → ℕ → List ℕ → List ℕ
+builtFrame = frameBy true
 
 -- ---- its number and value
 -- building, by what it is lent
@@ -66,15 +80,21 @@ abbrev pub planeNo : Layout → List ℕ → ℕ → List ℕ → List ℕ → L
 planeNo q src sp frame spill scratch = buildNo q (length src) sp (length frame) (length spill) (length scratch)
 
 -- by its number, with the frame that it leaves
+abbrev pub answerBy : Bool → ℕ → Layout → List ℕ → ℕ → List ℕ → Answer (List ℕ)
+answerBy fuse n q src sp f = ifDone n (frameBy fuse q src sp f) f
+
 abbrev pub buildAnswer : ℕ → Layout → List ℕ → ℕ → List ℕ → Answer (List ℕ)
-buildAnswer n q src sp f = ifDone n (builtFrame q src sp f) f
+buildAnswer = answerBy true
 
 -- spill or scratch: "After a finished build, spill and scratch are zero throughout"; "no refusal changes a lent byte"
 abbrev pub lentAfter : ℕ → List ℕ → Answer (List ℕ)
 lentAfter n lent = ifDone n (replicate (length lent) 0) lent
 
 -- what a build of number k leaves in the frame, in spill and in scratch
-abbrev pub BuildLeaves : Layout → List ℕ → ℕ → List ℕ → List ℕ → List ℕ → ℕ → List ℕ → List ℕ → List ℕ → Type 0
-BuildLeaves q src sp frame spill scratch k frame' spill' scratch' =
+abbrev pub LeavesBy : Bool → Layout → List ℕ → ℕ → List ℕ → List ℕ → List ℕ → ℕ → List ℕ → List ℕ → List ℕ → Type 0
+LeavesBy fuse q src sp frame spill scratch k frame' spill' scratch' =
     let n = planeNo q src sp frame spill scratch in
-    (answer k frame' ≡ buildAnswer n q src sp frame) × (answer k spill' ≡ lentAfter n spill) × (answer k scratch' ≡ lentAfter n scratch)
+    (answer k frame' ≡ answerBy fuse n q src sp frame) × (answer k spill' ≡ lentAfter n spill) × (answer k scratch' ≡ lentAfter n scratch)
+
+abbrev pub BuildLeaves : Layout → List ℕ → ℕ → List ℕ → List ℕ → List ℕ → ℕ → List ℕ → List ℕ → List ℕ → Type 0
+BuildLeaves = LeavesBy true

@@ -1,5 +1,5 @@
 // A plane of a frame, built whole: open-svpflow's `build_plane`.
-// First level 0; then the refining of it; then all stages; last the public call.
+// First level 0; then the refining of it; then all stages; last the call with a switch for the fused path, and the public one.
 ghost use mathlib.Core.Path.{_≡_};
 ghost use mathlib.Core.Bool.{cond};
 ghost use mathlib.Core.List.{_++_};
@@ -9,7 +9,7 @@ ghost use Rattle.settings.specs.Answers.{tested};
 ghost use Rattle.layouts.specs.Layout.{levelsOf, writtenEnd, spillNeed, scratchNeed};
 ghost use Rattle.layouts.specs.Refusals.{layoutNo};
 ghost use Rattle.layouts.specs.Room.{Ready};
-ghost use Rattle.planes.specs.Build.{copied, refined, built, builtFrame, BuildLeaves};
+ghost use Rattle.planes.specs.Build.{copied, refined, builtBy, frameBy, LeavesBy, BuildLeaves};
 use crate::later::reduce_levels;
 use crate::level0::source_row;
 use builder::canvas::put;
@@ -61,6 +61,7 @@ fn refine_planes(frame: &mut [u8], spill: &mut [u8], scratch: &mut [u8], layout:
 }
 
 fn build_levels(
+    fuse: bool,
     frame: &mut [u8],
     spill: &mut [u8],
     scratch: &mut [u8],
@@ -69,7 +70,7 @@ fn build_levels(
     src_pitch: usize,
 )
     requires { ⌜ Ready layout (length (now src)) «src_pitch» (length (now frame)) (length (now spill)) (length (now scratch)) ⌝ }
-    ensures { λ r. ⌜ now (frame .exit) ++ now (spill .exit) ≡ built layout (now (src .entry)) «src_pitch» (length (now (frame .entry))) (now (frame .entry) ++ now (spill .entry)) ⌝ }
+    ensures { λ r. ⌜ now (frame .exit) ++ now (spill .exit) ≡ builtBy fuse layout (now (src .entry)) «src_pitch» (length (now (frame .entry))) (now (frame .entry) ++ now (spill .entry)) ⌝ }
 {
     let opts = layout.opts;
     let n = opts.naturals();
@@ -77,12 +78,13 @@ fn build_levels(
         return;
     }
     copy_rows(frame, layout, src, src_pitch);
-    reduce_levels(frame, spill, scratch, layout, src, src_pitch);
+    reduce_levels(fuse, frame, spill, scratch, layout, src, src_pitch);
     refine_planes(frame, spill, scratch, layout);
 }
 
 // As much of the spill as a build may read holds zeros before.
 fn build_spilled(
+    fuse: bool,
     frame: &mut [u8],
     spill: &mut [u8],
     scratch: &mut [u8],
@@ -91,12 +93,41 @@ fn build_spilled(
     src_pitch: usize,
 )
     requires { ⌜ Ready layout (length (now src)) «src_pitch» (length (now frame)) (length (now spill)) (length (now scratch)) ⌝ }
-    ensures { λ r. ⌜ now (frame .exit) ≡ builtFrame layout (now (src .entry)) «src_pitch» (now (frame .entry)) ⌝ }
+    ensures { λ r. ⌜ now (frame .exit) ≡ frameBy fuse layout (now (src .entry)) «src_pitch» (now (frame .entry)) ⌝ }
 {
     let need = spill_need(layout);
     let beyond = &mut spill[..need];
     zero_row(beyond);
-    build_levels(frame, beyond, scratch, layout, src, src_pitch);
+    build_levels(fuse, frame, beyond, scratch, layout, src, src_pitch);
+}
+
+// For a site that turned the fused path off and asks what it may compare: the comparison with the Rust runs both with the path off.
+pub fn build_plane_by(
+    fuse: bool,
+    frame: &mut [u8],
+    spill: &mut [u8],
+    scratch: &mut [u8],
+    layout: Layout,
+    src: &[u8],
+    src_pitch: usize,
+) -> Tested
+    ensures { λ r. ⌜ LeavesBy fuse layout (now (src .entry)) «src_pitch» (now (frame .entry)) (now (spill .entry)) (now (scratch .entry)) (tested r) (now (frame .exit)) (now (spill .exit)) (now (scratch .exit)) ⌝ }
+{
+    let t = build_tested(
+        layout,
+        src.len(),
+        src_pitch,
+        frame.len(),
+        spill.len(),
+        scratch.len(),
+    );
+    let Tested::Fine = t else {
+        return t;
+    };
+    build_spilled(fuse, frame, spill, scratch, layout, src, src_pitch);
+    zero_row(spill);
+    zero_row(scratch);
+    Tested::Fine
 }
 
 // Builds a plane's levels from the source plane, its rows src_pitch apart; what was lent for it holds zeros after. Refusals 6 to 13.
@@ -110,19 +141,5 @@ pub fn build_plane(
 ) -> Tested
     ensures { λ r. ⌜ BuildLeaves layout (now (src .entry)) «src_pitch» (now (frame .entry)) (now (spill .entry)) (now (scratch .entry)) (tested r) (now (frame .exit)) (now (spill .exit)) (now (scratch .exit)) ⌝ }
 {
-    let t = build_tested(
-        layout,
-        src.len(),
-        src_pitch,
-        frame.len(),
-        spill.len(),
-        scratch.len(),
-    );
-    let Tested::Fine = t else {
-        return t;
-    };
-    build_spilled(frame, spill, scratch, layout, src, src_pitch);
-    zero_row(spill);
-    zero_row(scratch);
-    Tested::Fine
+    build_plane_by(true, frame, spill, scratch, layout, src, src_pitch)
 }

@@ -7,7 +7,7 @@ ghost use Rattle.filters.specs.declared.halving.Chosen.the-variants.{Filter};
 ghost use Rattle.filters.specs.Halve.{chosen};
 ghost use Rattle.layouts.specs.Layout.{levelsOf};
 ghost use Rattle.layouts.specs.Room.{Ready};
-ghost use Rattle.planes.specs.Build.{halveLevel, halved};
+ghost use Rattle.planes.specs.Build.{levelBy, halvedBy};
 use builder::halving::reduce_cubic;
 use builder::halving::reduce_within;
 use builder::separate::reduce_separate;
@@ -19,6 +19,7 @@ use layouts::levels::region;
 use layouts::margins::is_fused;
 
 fn reduce(
+    fuse: bool,
     filter: ReduceFilter,
     frame: &mut [u8],
     spill: &mut [u8],
@@ -29,13 +30,13 @@ fn reduce(
     level: u32,
 )
     requires { ⌜ Ready layout (length (now src)) «src_pitch» (length (now frame)) (length (now spill)) (length (now scratch)) × (1 ≤ level) × (level < levelsOf layout) ⌝ }
-    ensures { λ r. ⌜ now (frame .exit) ++ now (spill .exit) ≡ halveLevel layout (now (src .entry)) «src_pitch» (length (now (frame .entry))) filter level (now (frame .entry) ++ now (spill .entry)) ⌝ }
+    ensures { λ r. ⌜ now (frame .exit) ++ now (spill .exit) ≡ levelBy fuse layout (now (src .entry)) «src_pitch» (length (now (frame .entry))) filter level (now (frame .entry) ++ now (spill .entry)) ⌝ }
 {
     let opts = layout.opts;
     let pitch = layout.pitch;
     let base = offset(layout, level - 1);
     let target = region(layout, level);
-    if is_fused(layout, level, frame.len()) {
+    if fuse & is_fused(layout, level, frame.len()) {
         reduce_cubic(frame, scratch, base, pitch, target);
         return;
     }
@@ -47,6 +48,7 @@ fn reduce(
 }
 
 fn reduce_each(
+    fuse: bool,
     filter: ReduceFilter,
     frame: &mut [u8],
     spill: &mut [u8],
@@ -56,17 +58,28 @@ fn reduce_each(
     src_pitch: usize,
 )
     requires { ⌜ Ready layout (length (now src)) «src_pitch» (length (now frame)) (length (now spill)) (length (now scratch)) ⌝ }
-    ensures { λ r. ⌜ now (frame .exit) ++ now (spill .exit) ≡ halved layout (now (src .entry)) «src_pitch» (length (now (frame .entry))) (Filter filter) (now (frame .entry) ++ now (spill .entry)) ⌝ }
+    ensures { λ r. ⌜ now (frame .exit) ++ now (spill .exit) ≡ halvedBy fuse layout (now (src .entry)) «src_pitch» (length (now (frame .entry))) (Filter filter) (now (frame .entry) ++ now (spill .entry)) ⌝ }
 {
     let opts = layout.opts;
     let n = opts.naturals();
     let levels = n.levels;
     for level in 1..levels {
-        reduce(filter, frame, spill, scratch, layout, src, src_pitch, level);
+        reduce(
+            fuse,
+            filter,
+            frame,
+            spill,
+            scratch,
+            layout,
+            src,
+            src_pitch,
+            level,
+        );
     }
 }
 
 pub fn reduce_levels(
+    fuse: bool,
     frame: &mut [u8],
     spill: &mut [u8],
     scratch: &mut [u8],
@@ -75,11 +88,11 @@ pub fn reduce_levels(
     src_pitch: usize,
 )
     requires { ⌜ Ready layout (length (now src)) «src_pitch» (length (now frame)) (length (now spill)) (length (now scratch)) ⌝ }
-    ensures { λ r. ⌜ now (frame .exit) ++ now (spill .exit) ≡ halved layout (now (src .entry)) «src_pitch» (length (now (frame .entry))) (chosen (layout .opts .«scale_down»)) (now (frame .entry) ++ now (spill .entry)) ⌝ }
+    ensures { λ r. ⌜ now (frame .exit) ++ now (spill .exit) ≡ halvedBy fuse layout (now (src .entry)) «src_pitch» (length (now (frame .entry))) (chosen (layout .opts .«scale_down»)) (now (frame .entry) ++ now (spill .entry)) ⌝ }
 {
     let opts = layout.opts;
     let Chosen::Filter(filter) = ReduceFilter::from_option(opts.scale_down) else {
         return;
     };
-    reduce_each(filter, frame, spill, scratch, layout, src, src_pitch);
+    reduce_each(fuse, filter, frame, spill, scratch, layout, src, src_pitch);
 }

@@ -34,7 +34,7 @@ build-levels-requires c κs =
     ready-lent r refl (omega (arith, at-zero-row .zero-row .kept .0, part at-spill-need, at-spill-need .spill-need .ensures)) (r .room)
 
 same-length : tie.Need-same-length
-same-length c = c .before .before .before .before .before .before .build-levels .kept .0
+same-length c = c .before .before .before .before .before .before .build-levels .kept .1 .0
 
 same-length-2 : tie.Need-same-length-2
 same-length-2 c =
@@ -42,10 +42,10 @@ same-length-2 c =
     let at-zero-row = at-build-levels .before .before .before .before .before in
     let at-spill-need = at-zero-row .before .before .before in
     let a = at-spill-need .before .before .before .before .before .args in
-    same-len (at-spill-need .spill-need .result) (now (a .spill)) (at-build-levels .build-levels .last .1 .0) (at-build-levels .build-levels .kept .1 .0 ∙ at-zero-row .zero-row .kept .0)
+    same-len (at-spill-need .spill-need .result) (now (a .spill)) (at-build-levels .build-levels .last .1 .1 .0) (at-build-levels .build-levels .kept .1 .1 .0 ∙ at-zero-row .zero-row .kept .0)
 
 same-length-3 : tie.Need-same-length-3
-same-length-3 c = c .before .before .before .before .before .before .build-levels .kept .1 .1 .0
+same-length-3 c = c .before .before .before .before .before .before .build-levels .kept .1 .1 .1 .0
 
 returns : tie.Need-returns
 returns c =
@@ -53,7 +53,7 @@ returns c =
     let at-zero-row = at-build-levels .before .before .before .before .before in
     let at-spill-need = at-zero-row .before .before .before in
     let a = at-spill-need .before .before .before .before .before .args in
-    frame-left (a .layout) (now (a .src)) (now (a .frame)) _ _ _ (a .src-pitch) (at-build-levels .build-levels .kept .0)
+    frame-left (a .fuse) (a .layout) (now (a .src)) (now (a .frame)) _ _ _ (a .src-pitch) (at-build-levels .build-levels .kept .1 .0)
     (at-zero-row .zero-row .ensures ∙ ap (λ (k : ℕ). replicate k 0) (part at-spill-need ∙ at-spill-need .spill-need .ensures))
     (at-build-levels .build-levels .ensures)
 

@@ -1,9 +1,12 @@
 -- `reduce` meets its contract. Assumes nothing.
-use mathlib.Core.Path.{refl, sym, _∙_}
-use Prim.Native.Nat.{_-_}
+use mathlib.Core.Path.{_≡_, refl, sym, ap, _∙_}
+use mathlib.Core.Bool.{Bool, _&&_}
 use native.Mathlib.Omega.{arith}
 use lib.ListN.{length}
 use denote.Ref.{now}
+use Rattle.settings.proofs.Tests.{and-right}
+use Rattle.layouts.specs.Layout.{regionAt}
+use Rattle.layouts.specs.Margins.{fusedAt}
 use Rattle.layouts.proofs.Layouts.{allowed, levels-le, region-there}
 use Rattle.planes.proofs.Prepared.{fused-stored, fused-whole, within-here, spread-here, by-fused, by-stored, by-source}
 use borrow.Author.Needs.{needs}
@@ -24,11 +27,24 @@ region-requires c κs = search needs
 is-fused-requires : tie.Need-is-fused-requires
 is-fused-requires c κs = search needs
 
+-- what is known where the level's way is chosen
+module _ (c : tie.After-is-fused) where
+  abbrev entered : tie.Start
+  entered = c .before .before .before .before .before .before .before .before
+
+  target : c .before .region .result ≡ regionAt (entered .args .layout) (entered .args .level)
+  target = c .before .region .ensures ∙ region-there (entered .args .layout) (entered .args .level) (entered .pre .2)
+
+  test : (entered .args .fuse && fusedAt (entered .args .layout) (length (now (entered .args .frame))) (entered .args .level)) ≡ (entered .args .fuse && c .is-fused .result)
+  test = ap (λ (b : Bool). entered .args .fuse && b) (sym (c .is-fused .ensures))
+
 reduce-cubic-requires : tie.Need-reduce-cubic-requires
 reduce-cubic-requires c κs =
-    let e = sym (c .before .before .before .is-fused .ensures) ∙ c .before .before .if1 .taken in
-    let t = c .before .before .before .before .region .ensures ∙ region-there (c .before .before .before .before .before .before .before .before .before .before .before .args .layout) (c .before .before .before .before .before .before .before .before .before .before .before .args .level) (c .before .before .before .before .before .before .before .before .before .before .before .pre .2) in
-    (within-here (c .before .before .before .before .before .before .before .before .before .before .before .args .layout) (c .before .before .before .before .before .before .before .before .before .before .before .pre .0) (c .before .before .before .before .before .before .before .before .before .before .before .args .level) (c .before .before .before .before .before .before .before .before .before .before .before .pre .1) (c .before .before .before .before .before .before .before .before .before .before .before .pre .2) (c .before .before .before .before .before .offset .ensures) (c .before .before .before .before .region .ensures ∙ region-there (c .before .before .before .before .before .before .before .before .before .before .before .args .layout) (c .before .before .before .before .before .before .before .before .before .before .before .args .level) (c .before .before .before .before .before .before .before .before .before .before .before .pre .2)) (fused-stored (c .before .before .before .before .before .before .before .before .before .before .before .args .layout) (length (now (c .before .before .before .before .before .before .before .before .before .before .before .args .frame))) (c .before .before .before .before .before .before .before .before .before .before .before .args .level) e), rw t (fused-whole (c .before .before .before .before .before .before .before .before .before .before .before .args .layout) (length (now (c .before .before .before .before .before .before .before .before .before .before .before .args .frame))) (c .before .before .before .before .before .before .before .before .before .before .before .args .level) e))
+    let at-is-fused = c .before .before .before in
+    let s = entered at-is-fused in
+    let t = target at-is-fused in
+    let e = and-right (s .args .fuse) _ (test at-is-fused ∙ c .before .before .if1 .taken) in
+    (within-here _ (s .pre .0) _ (s .pre .1) (s .pre .2) (at-is-fused .before .before .offset .ensures) t (fused-stored _ _ _ e), rw t (fused-whole _ _ _ e))
 
 same-length : tie.Need-same-length
 same-length c = c .before .before .before .before .reduce-cubic .kept .0
@@ -37,10 +53,18 @@ same-length-2 : tie.Need-same-length-2
 same-length-2 c = c .before .before .before .before .reduce-cubic .kept .1 .0
 
 returns : tie.Need-returns
-returns c = by-fused (c .before .before .before .before .before .before .before .before .before .before .before .before .before .before .before .before .args .layout) (c .before .before .before .before .before .before .before .before .before .before .before .before .before .before .before .before .pre .0) (c .before .before .before .before .before .before .before .before .before .before .before .before .before .before .before .before .args .level) (c .before .before .before .before .before .before .before .before .before .before .before .before .before .before .before .before .pre .1) (c .before .before .before .before .before .before .before .before .before .before .before .before .before .before .before .before .pre .2) (c .before .before .before .before .before .before .before .before .before .before .offset .ensures) (c .before .before .before .before .before .before .before .before .before .region .ensures ∙ region-there (c .before .before .before .before .before .before .before .before .before .before .before .before .before .before .before .before .args .layout) (c .before .before .before .before .before .before .before .before .before .before .before .before .before .before .before .before .args .level) (c .before .before .before .before .before .before .before .before .before .before .before .before .before .before .before .before .pre .2)) (now (c .before .before .before .before .before .before .before .before .before .before .before .before .before .before .before .before .args .src)) (c .before .before .before .before .before .before .before .before .before .before .before .before .before .before .before .before .args .filter) (now (c .before .before .before .before .before .before .before .before .before .before .before .before .before .before .before .before .args .frame)) (now (c .before .before .before .before .before .before .before .before .before .before .before .before .before .before .before .before .args .spill)) refl (sym (c .before .before .before .before .before .before .before .before .is-fused .ensures) ∙ c .before .before .before .before .before .before .before .if1 .taken) (c .before .before .before .before .reduce-cubic .ensures)
+returns c =
+    let at-reduce-cubic = c .before .before .before .before in
+    let at-if1 = at-reduce-cubic .before .before .before in
+    let at-is-fused = at-if1 .before in
+    let s = entered at-is-fused in
+    by-fused _ (s .pre .0) _ (s .pre .1) (s .pre .2) (at-is-fused .before .before .offset .ensures) (target at-is-fused) _ _ _ _ _ refl (test at-is-fused ∙ at-if1 .if1 .taken) (at-reduce-cubic .reduce-cubic .ensures)
 
 reduce-within-requires : tie.Need-reduce-within-requires
-reduce-within-requires c κs = within-here (c .before .before .before .before .before .before .before .before .before .before .before .before .before .args .layout) (c .before .before .before .before .before .before .before .before .before .before .before .before .before .pre .0) (c .before .before .before .before .before .before .before .before .before .before .before .before .before .args .level) (c .before .before .before .before .before .before .before .before .before .before .before .before .before .pre .1) (c .before .before .before .before .before .before .before .before .before .before .before .before .before .pre .2) (c .before .before .before .before .before .before .before .offset .ensures) (c .before .before .before .before .before .before .region .ensures ∙ region-there (c .before .before .before .before .before .before .before .before .before .before .before .before .before .args .layout) (c .before .before .before .before .before .before .before .before .before .before .before .before .before .args .level) (c .before .before .before .before .before .before .before .before .before .before .before .before .before .pre .2)) (c .before .before .if2 .taken)
+reduce-within-requires c κs =
+    let at-is-fused = c .before .before .before .before .before in
+    let s = entered at-is-fused in
+    within-here _ (s .pre .0) _ (s .pre .1) (s .pre .2) (at-is-fused .before .before .offset .ensures) (target at-is-fused) (c .before .before .if2 .taken)
 
 same-length-3 : tie.Need-same-length-3
 same-length-3 c = c .before .before .before .before .reduce-within .kept .1 .0
@@ -49,10 +73,19 @@ same-length-4 : tie.Need-same-length-4
 same-length-4 c = c .before .before .before .before .reduce-within .kept .1 .1 .0
 
 returns-2 : tie.Need-returns-2
-returns-2 c = by-stored (c .before .before .before .before .before .before .before .before .before .before .before .before .before .before .before .before .before .before .args .layout) (c .before .before .before .before .before .before .before .before .before .before .before .before .before .before .before .before .before .before .pre .0) (c .before .before .before .before .before .before .before .before .before .before .before .before .before .before .before .before .before .before .args .level) (c .before .before .before .before .before .before .before .before .before .before .before .before .before .before .before .before .before .before .pre .1) (c .before .before .before .before .before .before .before .before .before .before .before .before .before .before .before .before .before .before .pre .2) (c .before .before .before .before .before .before .before .before .before .before .before .before .offset .ensures) (c .before .before .before .before .before .before .before .before .before .before .before .region .ensures ∙ region-there (c .before .before .before .before .before .before .before .before .before .before .before .before .before .before .before .before .before .before .args .layout) (c .before .before .before .before .before .before .before .before .before .before .before .before .before .before .before .before .before .before .args .level) (c .before .before .before .before .before .before .before .before .before .before .before .before .before .before .before .before .before .before .pre .2)) (now (c .before .before .before .before .before .before .before .before .before .before .before .before .before .before .before .before .before .before .args .src)) (c .before .before .before .before .before .before .before .before .before .before .before .before .before .before .before .before .before .before .args .filter) (now (c .before .before .before .before .before .before .before .before .before .before .before .before .before .before .before .before .before .before .args .frame)) (now (c .before .before .before .before .before .before .before .before .before .before .before .before .before .before .before .before .before .before .args .spill)) refl (sym (c .before .before .before .before .before .before .before .before .before .before .is-fused .ensures) ∙ c .before .before .before .before .before .before .before .before .before .if1 .left) (c .before .before .before .before .before .before .before .if2 .taken) (c .before .before .before .before .reduce-within .ensures)
+returns-2 c =
+    let at-reduce-within = c .before .before .before .before in
+    let at-if2 = at-reduce-within .before .before .before in
+    let at-if1 = at-if2 .before .before in
+    let at-is-fused = at-if1 .before in
+    let s = entered at-is-fused in
+    by-stored _ (s .pre .0) _ (s .pre .1) (s .pre .2) (at-is-fused .before .before .offset .ensures) (target at-is-fused) _ _ _ _ _ refl (test at-is-fused ∙ at-if1 .if1 .left) (at-if2 .if2 .taken) (at-reduce-within .reduce-within .ensures)
 
 reduce-separate-requires : tie.Need-reduce-separate-requires
-reduce-separate-requires c κs = spread-here (c .before .before .before .before .before .before .before .before .before .before .before .before .before .before .args .layout) (c .before .before .before .before .before .before .before .before .before .before .before .before .before .before .pre .0) (c .before .before .before .before .before .before .before .before .before .before .before .before .before .before .args .level) (c .before .before .before .before .before .before .before .before .before .before .before .before .before .before .pre .1) (c .before .before .before .before .before .before .before .before .before .before .before .before .before .before .pre .2) (c .before .before .before .before .before .before .before .before .offset .ensures) (c .before .before .before .before .before .before .before .region .ensures ∙ region-there (c .before .before .before .before .before .before .before .before .before .before .before .before .before .before .args .layout) (c .before .before .before .before .before .before .before .before .before .before .before .before .before .before .args .level) (c .before .before .before .before .before .before .before .before .before .before .before .before .before .before .pre .2)) (c .before .before .before .if2 .left)
+reduce-separate-requires c κs =
+    let at-is-fused = c .before .before .before .before .before .before in
+    let s = entered at-is-fused in
+    spread-here _ (s .pre .0) _ (s .pre .1) (s .pre .2) (at-is-fused .before .before .offset .ensures) (target at-is-fused) (c .before .before .before .if2 .left)
 
 same-length-5 : tie.Need-same-length-5
 same-length-5 c = c .before .before .before .before .before .before .reduce-separate .kept .1 .0
@@ -64,7 +97,13 @@ same-length-7 : tie.Need-same-length-7
 same-length-7 c = c .before .before .before .before .before .before .reduce-separate .kept .1 .1 .1 .0
 
 returns-3 : tie.Need-returns-3
-returns-3 c = by-source (c .before .before .before .before .before .before .before .before .before .before .before .before .before .before .before .before .before .before .before .before .before .args .layout) (c .before .before .before .before .before .before .before .before .before .before .before .before .before .before .before .before .before .before .before .before .before .pre .0) (c .before .before .before .before .before .before .before .before .before .before .before .before .before .before .before .before .before .before .before .before .before .args .level) (c .before .before .before .before .before .before .before .before .before .before .before .before .before .before .before .before .before .before .before .before .before .pre .1) (c .before .before .before .before .before .before .before .before .before .before .before .before .before .before .before .before .before .before .before .before .before .pre .2) (c .before .before .before .before .before .before .before .before .before .before .before .before .before .before .before .offset .ensures) (c .before .before .before .before .before .before .before .before .before .before .before .before .before .before .region .ensures ∙ region-there (c .before .before .before .before .before .before .before .before .before .before .before .before .before .before .before .before .before .before .before .before .before .args .layout) (c .before .before .before .before .before .before .before .before .before .before .before .before .before .before .before .before .before .before .before .before .before .args .level) (c .before .before .before .before .before .before .before .before .before .before .before .before .before .before .before .before .before .before .before .before .before .pre .2)) (now (c .before .before .before .before .before .before .before .before .before .before .before .before .before .before .before .before .before .before .before .before .before .args .src)) (c .before .before .before .before .before .before .before .before .before .before .before .before .before .before .before .before .before .before .before .before .before .args .filter) (now (c .before .before .before .before .before .before .before .before .before .before .before .before .before .before .before .before .before .before .before .before .before .args .frame)) (now (c .before .before .before .before .before .before .before .before .before .before .before .before .before .before .before .before .before .before .before .before .before .args .spill)) refl (sym (c .before .before .before .before .before .before .before .before .before .before .before .before .before .is-fused .ensures) ∙ c .before .before .before .before .before .before .before .before .before .before .before .before .if1 .left) (c .before .before .before .before .before .before .before .before .before .before .if2 .left) (c .before .before .before .before .before .before .reduce-separate .ensures)
+returns-3 c =
+    let at-reduce-separate = c .before .before .before .before .before .before in
+    let at-if2 = at-reduce-separate .before .before .before .before in
+    let at-if1 = at-if2 .before .before in
+    let at-is-fused = at-if1 .before in
+    let s = entered at-is-fused in
+    by-source _ (s .pre .0) _ (s .pre .1) (s .pre .2) (at-is-fused .before .before .offset .ensures) (target at-is-fused) _ _ _ (now (s .args .frame)) (now (s .args .spill)) refl (test at-is-fused ∙ at-if1 .if1 .left) (at-if2 .if2 .left) (at-reduce-separate .reduce-separate .ensures)
 
 pub reduce-spec : {M : Type 1} → statement M
 reduce-spec =

@@ -9,16 +9,16 @@ use mathlib.Core.List.{_++_}
 use Rattle.layouts.specs.Storing.{steps}
 use Rattle.layouts.proofs.Loops.{walked-whole, next-less}
 use Rattle.builder.proofs.Runs.{Passed, passed-none, passed-next}
-use Rattle.planes.specs.Build.{halveLevel, halved}
+use Rattle.planes.specs.Build.{levelBy, halvedBy}
 use Rattle.planes.proofs.Prepared.{ready-kept}
 use Rattle.planes.proofs.later.reduce_each.Statement.{statement}
 use Rattle.planes.proofs.later.reduce_each.Tie as tie
 
 abbrev Inv-loop : tie.InvT-loop
-Inv-loop filter frame₀ spill₀ scratch₀ layout src sp levels level₀ frame spill scratch level = (1 ≤ level) × Passed (λ i. halveLevel layout src sp (length frame₀) filter (i + 1)) frame₀ spill₀ scratch₀ frame spill scratch (levels - 1) (level - 1)
+Inv-loop fuse filter frame₀ spill₀ scratch₀ layout src sp levels level₀ frame spill scratch level = (1 ≤ level) × Passed (λ i. levelBy fuse layout src sp (length frame₀) filter (i + 1)) frame₀ spill₀ scratch₀ frame spill scratch (levels - 1) (level - 1)
 
 abbrev μ-loop : tie.MeasureT-loop
-μ-loop filter frame₀ spill₀ scratch₀ layout src sp levels level₀ frame spill scratch level = levels - level
+μ-loop fuse filter frame₀ spill₀ scratch₀ layout src sp levels level₀ frame spill scratch level = levels - level
 
 naturals-requires : tie.Need-naturals-requires Inv-loop μ-loop
 naturals-requires c κs = tt
@@ -44,7 +44,7 @@ loop-again c =
     let a = c .before .before .before .before .before .before .before .before .before .before .before .before .before .before .before .before .before .before .args in
     let l = c .before .before .before .before .before .before .before .before .before .before .before .loop in
     let r = c .before .before .before .before .before .before .reduce in
-    (omega arith, passed-next (halveLevel (a .layout) (now (a .src)) (a .src-pitch) (length (now (a .frame))) (a .filter)) (l .inv .0) (l .inv .1) (c .before .before .before .before .before .before .before .before .before .before .loop-test .taken) (r .kept .1 .0) (r .kept .1 .1 .0) (r .kept .1 .1 .1 .0) (r .ensures ∙ ap (λ (k : ℕ). halveLevel (a .layout) (now (a .src)) (a .src-pitch) k (a .filter) (l .level) (l .frame ++ l .spill)) (l .inv .1 .frame)))
+    (omega arith, passed-next (levelBy (a .fuse) (a .layout) (now (a .src)) (a .src-pitch) (length (now (a .frame))) (a .filter)) (l .inv .0) (l .inv .1) (c .before .before .before .before .before .before .before .before .before .before .loop-test .taken) (r .kept .1 .1 .0) (r .kept .1 .1 .1 .0) (r .kept .1 .1 .1 .1 .0) (r .ensures ∙ ap (λ (k : ℕ). levelBy (a .fuse) (a .layout) (now (a .src)) (a .src-pitch) k (a .filter) (l .level) (l .frame ++ l .spill)) (l .inv .1 .frame)))
 
 same-length : tie.Need-same-length Inv-loop μ-loop
 same-length c = c .before .loop .inv .1 .frame
@@ -56,12 +56,12 @@ same-length-3 : tie.Need-same-length-3 Inv-loop μ-loop
 same-length-3 c = c .before .loop .inv .1 .scratch
 
 returns : tie.Need-returns Inv-loop μ-loop
-unfolding halved
+unfolding halvedBy
 returns c =
     let a = c .before .before .before .before .before .before .before .before .args in
     let n = ap (λ (x : Naturals). x .levels) (c .before .before .naturals .ensures) in
     walked-whole (c .before .loop .inv .1 .walk) (omega (arith, c .loop-test .left))
-    ∙ ap (λ (k : ℕ). steps (λ i. halveLevel (a .layout) (now (a .src)) (a .src-pitch) (length (now (a .frame))) (a .filter) (i + 1)) (k - 1) (now (a .frame) ++ now (a .spill))) n
+    ∙ ap (λ (k : ℕ). steps (λ i. levelBy (a .fuse) (a .layout) (now (a .src)) (a .src-pitch) (length (now (a .frame))) (a .filter) (i + 1)) (k - 1) (now (a .frame) ++ now (a .spill))) n
 
 pub reduce-each-spec : {M : Type 1} → statement M
 reduce-each-spec =

@@ -8,7 +8,7 @@ use Rattle.filters.specs.Halve.{chosen}
 use mir.Facts.{toZ-ofZ}
 use mir.Val.{SFits}
 use mir.Syntax.{w32}
-use Rattle.planes.specs.Build.{halved}
+use Rattle.planes.specs.Build.{halvedBy}
 use borrow.Author.Needs.{needs}
 use Rattle.planes.proofs.later.reduce_levels.Statement.{statement}
 use Rattle.planes.proofs.later.reduce_levels.Tie as tie
@@ -26,30 +26,30 @@ enum-told : tie.Need-enum-told
 enum-told c = search needs
 
 returns : tie.Need-returns
-unfolding halved
+unfolding halvedBy
 returns c =
     let a = c .before .before .before .before .before .before .before .before .before .args in
     let none = sym (c .before .before .from-option .ensures ∙ ap chosen (toZ-ofZ (down (c .before .before .before)))) ∙ c .enum-told .given .1 in
-    sym (ap (λ (k : Chosen). halved (a .layout) (now (a .src)) (a .src-pitch) (length (now (a .frame))) k (now (a .frame) ++ now (a .spill))) none)
+    sym (ap (λ (k : Chosen). halvedBy (a .fuse) (a .layout) (now (a .src)) (a .src-pitch) (length (now (a .frame))) k (now (a .frame) ++ now (a .spill))) none)
 
 reduce-each-requires : tie.Need-reduce-each-requires
 reduce-each-requires c κs = c .before .before .before .before .before .before .before .before .before .before .before .before .before .pre
 
 same-length : tie.Need-same-length
-same-length c = c .before .before .before .before .before .before .reduce-each .kept .1 .0
+same-length c = c .before .before .before .before .before .before .reduce-each .kept .1 .1 .0
 
 same-length-2 : tie.Need-same-length-2
-same-length-2 c = c .before .before .before .before .before .before .reduce-each .kept .1 .1 .0
+same-length-2 c = c .before .before .before .before .before .before .reduce-each .kept .1 .1 .1 .0
 
 same-length-3 : tie.Need-same-length-3
-same-length-3 c = c .before .before .before .before .before .before .reduce-each .kept .1 .1 .1 .0
+same-length-3 c = c .before .before .before .before .before .before .reduce-each .kept .1 .1 .1 .1 .0
 
 returns-2 : tie.Need-returns-2
 returns-2 c =
     let a = c .before .before .before .before .before .before .before .before .before .before .before .before .before .before .before .before .before .before .before .before .args in
     let some = sym (c .before .before .before .before .before .before .before .before .before .before .before .before .before .from-option .ensures ∙ ap chosen (toZ-ofZ (down (c .before .before .before .before .before .before .before .before .before .before .before .before .before .before)))) ∙ c .before .before .before .before .before .before .before .before .before .before .before .filter .given .1 in
     c .before .before .before .before .before .before .reduce-each .ensures
-    ∙ sym (ap (λ (k : Chosen). halved (a .layout) (now (a .src)) (a .src-pitch) (length (now (a .frame))) k (now (a .frame) ++ now (a .spill))) some)
+    ∙ sym (ap (λ (k : Chosen). halvedBy (a .fuse) (a .layout) (now (a .src)) (a .src-pitch) (length (now (a .frame))) k (now (a .frame) ++ now (a .spill))) some)
 
 pub reduce-levels-spec : {M : Type 1} → statement M
 reduce-levels-spec =

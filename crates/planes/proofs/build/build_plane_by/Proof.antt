@@ -1,4 +1,4 @@
--- `build_plane` meets its contract. Assumes nothing.
+-- `build_plane_by` meets its contract. Assumes nothing.
 use mathlib.Core.Path.{_≡_, sym, ap, _∙_}
 use mathlib.Core.List.{List}
 use Prim.Native.Nat.{ℕ}
@@ -7,10 +7,10 @@ use denote.Ref.{now}
 use borrow.Author.Needs.{needs}
 use Rattle.settings.specs.Answers.{answer, tested}
 use Rattle.settings.proofs.Known.{given, refused}
-use Rattle.planes.specs.Build.{builtFrame, planeNo, lentAfter}
+use Rattle.planes.specs.Build.{frameBy, planeNo, lentAfter}
 use Rattle.planes.proofs.Whole.{ready}
-use Rattle.planes.proofs.build.build_plane.Statement.{statement}
-use Rattle.planes.proofs.build.build_plane.Tie as tie
+use Rattle.planes.proofs.build.build_plane_by.Statement.{statement}
+use Rattle.planes.proofs.build.build_plane_by.Tie as tie
 
 passed : (c : tie.After-enum-told) → planeNo (c .before .before .before .before .before .before .before .args .layout) (now (c .before .before .before .before .before .before .before .args .src)) (c .before .before .before .before .before .before .before .args .src-pitch) (now (c .before .before .before .before .before .before .before .args .frame)) (now (c .before .before .before .before .before .before .before .args .spill)) (now (c .before .before .before .before .before .before .before .args .scratch)) ≡ 0
 passed c = sym (c .before .before .build-tested .ensures) ∙ ap tested (c .enum-told .given .1)
@@ -39,7 +39,7 @@ returns c =
     let n = planeNo (a .layout) src (a .src-pitch) F S X in
     let e = sym (ap tested (told .1)) ∙ c .before .before .build-tested .ensures in
     rw (told .1)
-    (refused n (told .0 .0) (builtFrame (a .layout) src (a .src-pitch) F) F e, refused n (told .0 .0) (replicate (length S) 0) S e, refused n (told .0 .0) (replicate (length X) 0) X e)
+    (refused n (told .0 .0) (frameBy (a .fuse) (a .layout) src (a .src-pitch) F) F e, refused n (told .0 .0) (replicate (length S) 0) S e, refused n (told .0 .0) (replicate (length X) 0) X e)
 
 build-spilled-requires : tie.Need-build-spilled-requires
 build-spilled-requires c κs = ready _ _ _ _ _ _ (passed (c .before .before .before))
@@ -73,11 +73,11 @@ returns-2 c =
     let X = now (a .scratch) in
     let n = planeNo (a .layout) src (a .src-pitch) F S X in
     let e = passed at-told in
-    let k = at-build-spilled .build-spilled .kept in
-    (ap (answer 0) (at-build-spilled .build-spilled .ensures) ∙ given n (builtFrame (a .layout) src (a .src-pitch) F) F e, zeros n _ S _ (at-zero-row .zero-row .ensures) (k .1 .0) e, zeros n _ X _ (at-zero-row2 .zero-row2 .ensures) (k .1 .1 .0) e)
+    let k = at-build-spilled .build-spilled .kept .1 in
+    (ap (answer 0) (at-build-spilled .build-spilled .ensures) ∙ given n (frameBy (a .fuse) (a .layout) src (a .src-pitch) F) F e, zeros n _ S _ (at-zero-row .zero-row .ensures) (k .1 .0) e, zeros n _ X _ (at-zero-row2 .zero-row2 .ensures) (k .1 .1 .0) e)
 
-pub build-plane-spec : {M : Type 1} → statement M
-build-plane-spec =
+pub build-plane-by-spec : {M : Type 1} → statement M
+build-plane-by-spec =
     tie.close
     (tie.spec
     build-tested-requires
