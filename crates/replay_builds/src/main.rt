@@ -1,5 +1,5 @@
 // Answers cases about whole builds, from standard input to standard output: what the comparison with the Rust runs, and the gate on a list of the Rust's own answers.
-// A case is 24 words and bytes: the 14 words of a layout (see `frame_cases`), the source pitch (high and low word), the lengths of source, frame, spill and scratch, whether the whole frame is asked for, whether the earlier bytes are made, their seed and a zero; then the source's bytes and, where they aren't made, the earlier bytes of frame, spill and scratch.
+// A case is 24 words and bytes: the 14 words of a layout (see `frame_cases`), the source pitch (high and low word), the lengths of source, frame, spill and scratch, whether the whole frame is asked for, whether the earlier bytes are made, their seed and whether the fused path is off; then the source's bytes and, where they aren't made, the earlier bytes of frame, spill and scratch.
 // Made bytes: x becomes 48,271 * x modulo 2^31 - 1, from the seed on, and the byte is floor(x / 2^23); seed 0 makes zeros. Spill and scratch go on where the frame ends.
 // The answer is the number (4 bytes), the sums of frame, spill and scratch after the call (8 bytes each) and, if asked for, the frame.
 // A sum is two numbers of 4 bytes: from 1 on, h becomes (h * m + byte) modulo 4,294,967,291, with m = 1,000,003 for the first and m = 998,244,353 for the second.
@@ -13,6 +13,8 @@ use libc::STDERR_FILENO;
 use libc::STDIN_FILENO;
 use libc::STDOUT_FILENO;
 use planes::build::build_plane;
+use planes::build::build_plane_by;
+use settings::refusal::Tested;
 
 // The largest: a plane of 1920x1080 with all its levels, and the scratch of the widest pitch.
 fn main() {
@@ -102,15 +104,23 @@ fn answer_build(
     if !earlier(head, frame, spill, scratch) {
         return false;
     }
-    put_tested(build_plane(
-        frame,
-        spill,
-        scratch,
-        layout_of(head),
-        source,
-        long(head, 14),
-    ));
+    put_tested(build(head, source, frame, spill, scratch));
     put_bytes(frame, spill, scratch, word(head, 20) != 0)
+}
+
+fn build(
+    head: &[u8; 96],
+    source: &[u8],
+    frame: &mut [u8],
+    spill: &mut [u8],
+    scratch: &mut [u8],
+) -> Tested {
+    let layout = layout_of(head);
+    let src_pitch = long(head, 14);
+    if word(head, 23) != 0 {
+        return build_plane_by(false, frame, spill, scratch, layout, source, src_pitch);
+    }
+    build_plane(frame, spill, scratch, layout, source, src_pitch)
 }
 
 fn put_bytes(frame: &[u8], spill: &[u8], scratch: &[u8], whole: bool) -> bool {
