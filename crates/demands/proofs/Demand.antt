@@ -68,7 +68,7 @@ lent-needs q n sp len spill scratch e =
     let enough : (k : ℕ) → ltb k k ≡ false = λ k. le-ltb k k (omega arith) in
     then-none _ _ (then-none _ _ (then-first before beyond (then-first (before then beyond) room e)) (refuse-none _ 12 (enough (spillNeed q)))) (refuse-none _ 13 (enough (scratchNeed q)))
 
-with-needs : (q : Layout) (n sp len spill scratch : ℕ) → buildNo q n sp len spill scratch ≡ 0 → buildNo q n sp len (spillNeed q) (scratchNeed q) ≡ 0
+pub with-needs : (q : Layout) (n sp len spill scratch : ℕ) → buildNo q n sp len spill scratch ≡ 0 → buildNo q n sp len (spillNeed q) (scratchNeed q) ≡ 0
 unfolding buildNo
 with-needs q n sp len spill scratch e =
     let before = layoutNo q then refuse (badPitch sp (widthAt q 0)) 9 in

@@ -5,11 +5,12 @@ use mathlib.Core.List.{List}
 use mathlib.Core.Logic.{_⊎_, inl, inr, ⊎-elim}
 use mathlib.Core.Bool.{Bool, true, false, cond, _||_}
 use Prim.Native.Nat.{ℕ, zero, suc, _+_, _*_, _-_, _≤_, _<_}
-use native.Mathlib.Nat.{zero-mul, le-of-suc-le-suc, eq-or-lt-of-le}
+use native.Mathlib.Nat.{zero-mul, mul-assoc, le-of-suc-le-suc, eq-or-lt-of-le}
 use native.Mathlib.Omega.{arith}
 use lib.Dec.{leb, ltb}
 use lib.ListN.{length, getD, length-replicate}
 use borrow.Author.Tests.{ltb-true, le-leb}
+use Rattle.settings.specs.Check.{pelOf}
 use Rattle.settings.proofs.Tests.{or-cases}
 use Rattle.filters.specs.declared.halving.ReduceFilter.{ReduceFilter}
 use Rattle.filters.specs.declared.half_pel.HalfPel.{HalfPel}
@@ -17,15 +18,17 @@ use Rattle.filters.specs.declared.half_pel.Upscale.{Upscale}
 use Rattle.filters.specs.declared.half_pel.Upscale.the-variants.{Means, Kernel}
 use Rattle.filters.specs.Row.{meanOf, meansOf, around}
 use Rattle.filters.specs.Halve.{horizontalAt, horizontalRow}
-use Rattle.filters.specs.Refine.{halfHorizontal, halfSample}
+use Rattle.filters.specs.Refine.{upscale, halfHorizontal, halfSample}
 use Rattle.filters.proofs.Tables.{tab-at}
 use Rattle.filters.proofs.Lengths.{means-length, horizontal-length, half-horizontal-length}
 use Rattle.layouts.specs.declared.layout.Layout.{Layout}
 use Rattle.layouts.specs.declared.layout.Region.{Region}
 use Rattle.layouts.specs.Storing.{put, steps}
-use Rattle.layouts.specs.Layout.{widthAt, heightAt, offsetAt, regionAt}
+use Rattle.layouts.specs.Layout.{levelsOf, widthAt, heightAt, offsetAt, regionAt}
 use Rattle.layouts.specs.Margins.{clearFrom}
+use Rattle.layouts.specs.Room.{Ready}
 use Rattle.layouts.proofs.Choices.{cond-yes}
+use Rattle.layouts.proofs.Layouts.{offset-next}
 use Rattle.layouts.proofs.Loops.{row-in}
 use Rattle.builder.specs.declared.refining.Interp.{Interp}
 use Rattle.builder.specs.declared.refining.Pair.{Pair}
@@ -35,11 +38,13 @@ use Rattle.builder.specs.Refining.{chunked, pairRun, pairPlane, horizontalPlane
 use Rattle.builder.proofs.Runs.{fetch-length, fetch-at, put-grows, put-before, put-at, put-past}
 use Rattle.builder.proofs.Lines.{reads-all}
 use Rattle.builder.proofs.Refined.{cut, every, every-at}
-use Rattle.builder.proofs.Related.{Any, any-bytes, any-kernel, any-row}
+use Rattle.builder.proofs.Related.{Any, any-bytes, any-kernel, any-ups, any-row}
 use Rattle.builder.proofs.Stages.{Keeps, after, turns, folds, Notion, store, OneNeed, PairNeed, UnderNeed, stored-kept, fused-kept, close-kept, source-kept, pair-kept, under-kept, means-kept, across-kept, below-kept, kernel-kept}
-use Rattle.planes.specs.Build.{copied, halveLevel}
+use Rattle.builder.proofs.Placed.{refine-placed}
+use Rattle.planes.specs.Build.{copied, halveLevel, refined}
 use Rattle.planes.proofs.Prepared.{fused-fits}
-use Rattle.planes.proofs.Parts.{copied-kept, Level, level-kept}
+use Rattle.planes.proofs.Parts.{copied-kept, Level, level-kept, refined-kept}
+use Rattle.planes.proofs.Whole.{refine-ready}
 
 -- ---- a run that is stored
 -- byte i is there, and is v
@@ -168,6 +173,27 @@ level-off {i} {v} q src sp len f l lt =
 
 pub level-keeps : {i v : ℕ} (q : Layout) (src : List ℕ) (sp len : ℕ) (f : ReduceFilter) (l : ℕ) → i < offsetAt q l → KeepsByte i v (halveLevel q src sp len f l)
 level-keeps q src sp len f l lt = level-kept q src src sp len f l (level-off q src sp len f l lt)
+
+-- ---- refining: bytes past level 0's planes, and past what a pair's last row may run over into, stay
+pub refined-past : {i v : ℕ} (q : Layout) {n sp len spill scratch : ℕ} → Ready q n sp len spill scratch → 1 ≤ levelsOf q → q .opts .full ≡ true → offsetAt q 1 + 16 ≤ i → KeepsByte i v (refined q)
+unfolding byte
+refined-past {i} {v} q {len = len} {spill = spill} {scratch = scratch} r some full past =
+    let pel = pelOf (q .opts) in
+    let h = heightAt q 0 in
+    refined-kept q
+    (λ e.
+    let ready = refine-ready q pel _ _ refl refl refl e len spill scratch (r .layout) some (r .end) (r .spills) (r .room) in
+    let planes = ready .1 in
+    refine-placed any-bytes {N = byte i v} (offsetAt q 1) 16 (record { sees = λ at n fits. tt; takes = λ at n fits. inr (omega arith) }) (omega arith) (upscale (q .opts .«scale_up»)) (any-ups (upscale (q .opts .«scale_up»))) pel (ready .0)
+    (record {
+      wide = planes .wide;
+      fits = planes .fits;
+      most-pitch = planes .most-pitch;
+      high = planes .high;
+      most-height = planes .most-height;
+      inside = subst (λ (k : ℕ). k ≤ offsetAt q 1) (ap (λ (k : ℕ). k * h * q .pitch) (cond-yes (q .opts .full) (pel * pel) 0 full) ∙ mul-assoc (pel * pel) h (q .pitch)) (omega (arith, offset-next q 0));
+      room = planes .room;
+    }))
 
 -- ---- the first byte of a level, from four bytes that are alike
 first-line : {v : ℕ} (f : ReduceFilter) (whole n h : ℕ) (s : List ℕ) (base sp j : ℕ) → j < n → getD s (base + j) 0 ≡ v → getD s (base + sp + j) 0 ≡ v → getD (verticalLine f whole n h s base sp 0) j 0 ≡ meanOf v v

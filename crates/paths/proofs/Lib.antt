@@ -3,7 +3,9 @@
 --     Equation   the fused cubic is the generic one with the rows' margins zeroed
 --     Picture    order 2's sentences, of one level: about the definitions, and about the two functions
 --     Builds     whole builds with the fused path on and off
+--     Differ     where whole builds differ, computed
 pub mod Swaps
 pub mod Equation
 pub mod Picture
 pub mod Builds
+pub mod Differ

@@ -1,8 +1,8 @@
 -- Document 02, order 2: "Two cubic paths, one picture." What is stated of them; proofs/ has the proofs.
 -- First the two ways of halving a level, and where both can be gone; then one level: one equation, and the order's own sentences; last when whole builds leave one frame.
 use mathlib.Core.Path.{_≡_}
-use mathlib.Core.Bool.{true, _||_}
-use mathlib.Core.List.{List}
+use mathlib.Core.Bool.{Bool, true, _||_}
+use mathlib.Core.List.{List, [], _∷_}
 use mathlib.Core.Logic.{_⊎_}
 use Prim.Native.Nat.{ℕ, _+_, _*_, _-_, _≤_, _<_}
 use lib.Dec.{leb}
@@ -14,6 +14,7 @@ use Rattle.layouts.specs.Layout.{levelsOf, widthAt, heightAt, offsetAt, regionA
 use Rattle.layouts.specs.Refusals.{buildNo}
 use Rattle.layouts.specs.Margins.{cubicFits, fusedAt, clearFrom}
 use Rattle.builder.specs.Halving.{fromStored, fused}
+use Rattle.planes.specs.Build.{frameBy}
 
 -- ---- "fused and generic halving": level l of q, from the level before it in the frame c
 abbrev pub fusedHalving : Layout → ℕ → List ℕ → List ℕ
@@ -71,3 +72,20 @@ ZeroMargins q l c = (y j : ℕ) → y < heightAt q l → 2 * widthAt q l ≤ j �
 -- and in each level that the fused path makes in a frame of len bytes: so in a frame of zeros
 abbrev pub FusedMarginsZero : Layout → ℕ → List ℕ → Type 0
 FusedMarginsZero q len c = (l : ℕ) → 1 ≤ l → l < levelsOf q → fusedAt q len l ≡ true → ZeroMargins q l c
+
+-- two calls' layout, source plane, source pitch and frame are one
+pub record SameInput (q q' : Layout) (src src' : List ℕ) (sp sp' : ℕ) (f f' : List ℕ) : Type 0 where
+  pub one-layout : q' ≡ q
+  pub one-source : src' ≡ src
+  pub one-pitch : sp' ≡ sp
+  pub one-frame : f' ≡ f
+
+-- pictures prepared one after the other in one frame, of source planes whose rows are sp apart, with the fused path on or off
+unfoldable pub inTurn : Bool → Layout → ℕ → List (List ℕ) → List ℕ → List ℕ
+inTurn fuse q sp [] f = f
+inTurn fuse q sp (src ∷ later) f = inTurn fuse q sp later (frameBy fuse q src sp f)
+
+-- each of n bytes
+abbrev pub AllLong : ℕ → List (List ℕ) → Type 0
+AllLong n [] = Unit
+AllLong n (src ∷ later) = (length src ≡ n) × AllLong n later

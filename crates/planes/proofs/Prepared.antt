@@ -86,6 +86,13 @@ module _ (base p : ℕ) (t : Region) (len : ℕ) (e : cubicFits base p t len ≡
       let target = leb (t .offset + (h - 1) * p + 2 * w) len in
       and-left row source (and-left (row && source) target e)
 
+  cubic-wide : 8 ≤ t .width
+  cubic-wide =
+      let n = 2 * t .width in
+      let w = leb 8 (t .width) in
+      let h = leb 2 (t .height) in
+      leb-true 8 (t .width) (and-left w h (and-left (w && h) (eqb (n % 8) 0) (and-left (w && h && eqb (n % 8) 0) (leb n p) row-says)))
+
   -- it is of whole eights
   pub cubic-whole : wholeOf Cubic (2 * t .width) ≡ 2 * t .width
   cubic-whole =
@@ -118,11 +125,17 @@ module _ (q : Layout) (len l : ℕ) (e : fusedAt q len l ≡ true) where
   pub fused-stored : (q .opts .full || leb 2 l) ≡ true
   fused-stored = and-right four stored (and-left (four && stored) fits both)
 
+  fused-cubic : fits ≡ true
+  fused-cubic = and-right (four && stored) fits both
+
+  pub fused-wide : 8 ≤ widthAt q l
+  fused-wide = cubic-wide (offsetAt q (l - 1)) (q .pitch) (regionAt q l) len fused-cubic
+
   pub fused-whole : wholeOf Cubic (2 * widthAt q l) ≡ 2 * widthAt q l
-  fused-whole = cubic-whole (offsetAt q (l - 1)) (q .pitch) (regionAt q l) len (and-right (four && stored) fits both)
+  fused-whole = cubic-whole (offsetAt q (l - 1)) (q .pitch) (regionAt q l) len fused-cubic
 
   pub fused-fits : 2 * widthAt q l ≤ q .pitch
-  fused-fits = cubic-narrow (offsetAt q (l - 1)) (q .pitch) (regionAt q l) len (and-right (four && stored) fits both)
+  fused-fits = cubic-narrow (offsetAt q (l - 1)) (q .pitch) (regionAt q l) len fused-cubic
 
 -- ---- a later level, in its way
 stored-before : (q : Layout) (l : ℕ) → 1 ≤ l → (q .opts .full || leb 2 l) ≡ true → (q .opts .full ≡ true) ⊎ (1 ≤ l - 1)

@@ -1,0 +1,55 @@
+-- Where whole builds differ with the fused path on and off: the smallest planes, computed. Assumes nothing.
+-- In a frame that wasn't zeroed a margin keeps what it held, and a later level's other columns read it, half a pitch away. By a record that isn't full a margin may hold what level 1 left there before its rows closed up.
+use mathlib.Core.Path.{_≡_, refl}
+use mathlib.Core.Bool.{Bool, true, false}
+use mathlib.Core.List.{List, [], _∷_}
+use Prim.Native.Nat.{ℕ}
+use lib.IntN.{pos}
+use lib.ListN.{length, getD, replicate}
+use Rattle.settings.specs.Numbers.{total}
+use Rattle.settings.specs.Sizes.{reduced, levelsIn}
+use Rattle.settings.specs.Check.{settingsNo, accepted}
+use Rattle.filters.specs.Row.{tab, meansOf, sixes}
+use Rattle.filters.specs.Halve.{chosen, headed, horizontalAt, horizontalRow}
+use Rattle.layouts.specs.declared.layout.Layout.{Layout}
+use Rattle.layouts.specs.Storing.{put, steps}
+use Rattle.layouts.specs.Layout.{offsetAt, spillNeed, scratchNeed}
+use Rattle.layouts.specs.Refusals.{layoutNo, lentNo, buildNo}
+use Rattle.layouts.specs.Margins.{cubicFits, fusedAt}
+use Rattle.builder.specs.Canvas.{fetch, copyRun}
+use Rattle.builder.specs.Halving.{wholeLine, restLine, innerLine, verticalLine, verticalRows, halveRun, horizontalRows, fromStored, fused, closeUp, fromSource}
+use Rattle.planes.specs.Build.{copied, levelBy, halvedBy, refined, builtBy, frameBy}
+
+-- at pel 1, down 4: full or not, width, height, levels, pitch
+abbrev plane : Bool → ℕ → ℕ → ℕ → ℕ → Layout
+plane full w h levels pitch =
+    record {
+      opts = record {
+        pel = pos 1;
+        gpu = pos 0;
+        «scale_down» = pos 4;
+        «scale_up» = pos 0;
+        full = full;
+        rc = false;
+        lean = false;
+        levels = pos levels;
+        width = pos w;
+        height = pos h;
+      };
+      «x_shift» = 0;
+      «y_shift» = 0;
+      pitch = pitch;
+    }
+
+-- the build's number, and byte i with the fused path on and off; source and frame are so many bytes of one value each
+abbrev bytesAt : Layout → ℕ → List ℕ → List ℕ → ℕ → List ℕ
+bytesAt q sp src F i =
+    buildNo q (length src) sp (length F) (spillNeed q) (scratchNeed q)
+    ∷ getD (frameBy true q src sp F) i 0
+    ∷ getD (frameBy false q src sp F) i 0
+    ∷ []
+
+-- full, 16x8, pitch 17: a source of 0s in a frame of 255s. Byte 152 is the margin of row 0 of level 1
+pub margin-differs : bytesAt (plane true 16 8 2 17) 16 (replicate 128 0) (replicate 204 255) 152 ≡ (0 ∷ 0 ∷ 255 ∷ [])
+unfolding buildNo layoutNo lentNo accepted settingsNo levelsIn total reduced tab meansOf sixes chosen headed horizontalAt horizontalRow fetch put steps offsetAt cubicFits fusedAt wholeLine restLine innerLine verticalLine verticalRows halveRun horizontalRows fromStored fused copyRun closeUp fromSource copied levelBy halvedBy refined builtBy frameBy
+margin-differs = refl
