@@ -2,9 +2,9 @@
 --     "Reading any word names one build exactly if some accepted record packs to it and all that do leave equal bytes, given the same plane, source pitch, layout and starting frame; it then tells the width, height, pel, levels, gpu, full, rc and lean they all have, and their down and up where document 01 says these matter. It answers "not a code" exactly if none packs to it. It answers that the halving or the upscale filter isn't told exactly if two such records, alike but for that one setting, leave different bytes for some plane, source pitch and layout, the same for both, in a frame of zeros; if both hold, halving is named."
 -- `Demand3` of specs/Demands.antt says it sentence by sentence, and `demand-3` below that it holds of every answer that meets the contract of `read_word`.
 -- First the contracts of the five calls, each beside `Post`, what the checker itself reads of the call's `ensures`; then from the definitions to these contracts; then `demand-3`; last `alike-words`, that words which prepare alike leave equal bytes. Assumes nothing.
-use mathlib.Core.Path.{_≡_, sym, ap, _∙_, subst}
+use mathlib.Core.Path.{_≡_, refl, sym, ap, _∙_, subst}
 use mathlib.Core.List.{List}
-use mathlib.Core.Bool.{true, false}
+use mathlib.Core.Bool.{Bool, true, false}
 use mathlib.Core.Logic.{_↔_}
 use Prim.Native.Nat.{ℕ}
 use native.Mathlib.Omega.{arith}
@@ -28,7 +28,7 @@ use Rattle.settings.proofs.word.prepare_alike.Reads as prepare-alike-reads
 use Rattle.layouts.specs.declared.layout.Layout.{Layout}
 use Rattle.layouts.specs.Layout.{widthAt, writtenEnd, spillNeed, scratchNeed}
 use Rattle.layouts.specs.Refusals.{badPitch, layoutNo, sourceNeed, lentNo, buildNo}
-use Rattle.planes.specs.Build.{planeNo, BuildLeaves}
+use Rattle.planes.specs.Build.{frameBy, planeNo, LeavesBy, BuildLeaves}
 use Rattle.planes.proofs.build.build_plane.Reads as build-plane-reads
 use Rattle.demands.specs.Demands.{Inputs, withLayout, SameBuild, Differ, withDown, withUp, HalvingDiffers, UpscaleDiffers, Demand3, PacksTo, CallLeaves, leaves, Leaves}
 use Rattle.demands.proofs.Alike.{alike-build}
@@ -68,24 +68,26 @@ lent-needs q n sp len spill scratch e =
     let enough : (k : ℕ) → ltb k k ≡ false = λ k. le-ltb k k (omega arith) in
     then-none _ _ (then-none _ _ (then-first before beyond (then-first (before then beyond) room e)) (refuse-none _ 12 (enough (spillNeed q)))) (refuse-none _ 13 (enough (scratchNeed q)))
 
-pub with-needs : (q : Layout) (n sp len spill scratch : ℕ) → buildNo q n sp len spill scratch ≡ 0 → buildNo q n sp len (spillNeed q) (scratchNeed q) ≡ 0
+with-needs : (q : Layout) (n sp len spill scratch : ℕ) → buildNo q n sp len spill scratch ≡ 0 → buildNo q n sp len (spillNeed q) (scratchNeed q) ≡ 0
 unfolding buildNo
 with-needs q n sp len spill scratch e =
     let before = layoutNo q then refuse (badPitch sp (widthAt q 0)) 9 in
     let lent = lentNo q n sp len spill scratch in
     then-none before (lentNo q n sp len (spillNeed q) (scratchNeed q)) (then-first before lent e) (lent-needs q n sp len spill scratch (then-rest before lent e))
 
+-- what a build that was done leaves, with the fused path on or off
+pub done-leaves : (fuse : Bool) (q : Layout) (src : List ℕ) (sp : ℕ) (F S X : List ℕ) {k : ℕ} {F' S' X' : List ℕ} → LeavesBy fuse q src sp F S X k F' S' X' → k ≡ 0 → (buildNo q (length src) sp (length F) (spillNeed q) (scratchNeed q) ≡ 0) × (F' ≡ frameBy fuse q src sp F)
+done-leaves fuse q src sp F S X leaves done =
+    let n = planeNo q src sp F S X in
+    let none : n ≡ 0 = sym (ap (λ (a : Answer (List ℕ)). a .no) (leaves .0)) ∙ done in
+    (with-needs q (length src) sp (length F) (length S) (length X) none, ap (λ (a : Answer (List ℕ)). a .value) (leaves .0 ∙ sym (given n (frameBy fuse q src sp F) F none)))
+
 module _ (r : SuperOpts) (g : Inputs) (m : List ℕ) where
   abbrev q : Layout
   q = withLayout r g
 
   leaves-by : CallLeaves r g m → Leaves r g m
-  leaves-by f =
-      let n = planeNo q (g .plane) (g .«src_pitch») (g .frame) (f .spill) (f .scratch) in
-      let none : n ≡ 0 = sym (ap (λ (a : Answer (List ℕ)). a .no) (f .call .0)) in (
-        with-needs q (length (g .plane)) (g .«src_pitch») (length (g .frame)) (length (f .spill)) (length (f .scratch)) none,
-        ap (λ (a : Answer (List ℕ)). a .value) (f .call .0 ∙ sym (given n (leaves r g) (g .frame) none)),
-      )
+  leaves-by f = done-leaves true q (g .plane) (g .«src_pitch») (g .frame) (f .spill) (f .scratch) (f .call) refl
 
   finished-by : Leaves r g m → CallLeaves r g m
   finished-by l =

@@ -1,24 +1,19 @@
--- Whole builds with the fused path on and off: by a full record they leave one frame, if the margins of the levels that are fused are zeros before. Assumes nothing.
--- The reason: halving stores 2 * width bytes of a row, so margins that were zeros still are when a level is made and when a later one reads it, and zeroing them changes nothing.
--- First a level; then all of them, and the build; then its frame, and one of zeros; last about the calls.
+-- A full build with the fused path on and off, where the margins of the levels that are fused are zeros before: the canvas is the same, and the margins are zeros still. Assumes nothing.
+-- The reason: halving stores 2 * width bytes of a row, and nothing else of a full build reaches a margin; so one that was zeros still is when its level is made and when a later one reads it, and zeroing it changes nothing.
+-- First zeros stored over zeros; then where margins lie; then a level; last all of them, and the build.
 use mathlib.Core.Path.{_≡_, refl, sym, ap, subst, _∙_}
 use mathlib.Core.Bool.{Bool, true, false, cond, _||_}
-use mathlib.Core.List.{List, [], _∷_, _++_}
+use mathlib.Core.List.{List}
 use mathlib.Core.Logic.{_⊎_, inl, inr, ⊎-elim}
 use Prim.Native.Nat.{ℕ, _+_, _*_, _-_, _≤_, _<_}
 use native.Mathlib.Nat.{mul-le-mul-right, eq-or-lt-of-le}
 use native.Mathlib.Omega.{arith}
 use lib.Dec.{leb, eqb}
 use lib.IntN.{ℤ}
-use lib.ListN.{length, getD, take, replicate, length-append, length-replicate, getD-replicate, List·getD-append, List·getD-eq-default}
-use lib.Seq.{ext-getD, getD-take, length-take-le}
+use lib.ListN.{length, getD, replicate, length-replicate, getD-replicate}
+use lib.Seq.{ext-getD}
 use borrow.Author.Tests.{eqb-false}
-use contract.Lifetimes.{Lfts}
-use denote.Ref.{now}
 use Rattle.settings.specs.Numbers.{isNat}
-use Rattle.settings.specs.Answers.{Answer, tested}
-use Rattle.settings.proofs.Outcome.{Contract, Promises}
-use Rattle.settings.proofs.Known.{given}
 use Rattle.settings.proofs.Accepted.{is-nat-pos}
 use Rattle.filters.specs.declared.halving.ReduceFilter.{ReduceFilter}
 use Rattle.filters.specs.declared.halving.ReduceFilter.the-variants.{Cubic}
@@ -28,32 +23,29 @@ use Rattle.filters.specs.Halve.{chosen}
 use Rattle.filters.specs.Refine.{upscale}
 use Rattle.filters.proofs.Tests.{below-or}
 use Rattle.layouts.specs.declared.layout.Layout.{Layout}
-use Rattle.layouts.specs.declared.layout.Region.{Region}
-use Rattle.layouts.specs.Storing.{put, steps}
-use Rattle.layouts.specs.Layout.{levelsOf, widthAt, heightAt, storedAt, offsetAt, regionAt, spillNeed, scratchNeed}
-use Rattle.layouts.specs.Refusals.{buildNo}
+use Rattle.layouts.specs.Storing.{put}
+use Rattle.layouts.specs.Layout.{levelsOf, widthAt, heightAt, storedAt, offsetAt, regionAt}
 use Rattle.layouts.specs.Margins.{fusedAt, clearFrom}
 use Rattle.layouts.specs.Room.{Ready}
 use Rattle.layouts.proofs.Choices.{cond-yes}
 use Rattle.layouts.proofs.Loops.{row-in}
 use Rattle.layouts.proofs.Layouts.{allowed, offset-first, offset-mono, offset-apart, bytes-later, width-first}
 use Rattle.layouts.proofs.Stored.{stored-some}
-use Rattle.builder.specs.Halving.{fromStored, fused, fromSource}
+use Rattle.builder.specs.Halving.{fromStored, fromSource}
 use Rattle.builder.specs.Room.{Within}
 use Rattle.builder.proofs.Runs.{put-length, put-before, put-at, put-past}
 use Rattle.builder.proofs.Related.{any-bytes, any-ups, any-row}
 use Rattle.builder.proofs.Placed.{allows-less}
-use Rattle.planes.specs.Build.{copied, levelBy, halvedBy, refined, builtBy, frameBy, planeNo, LeavesBy}
+use Rattle.planes.specs.Build.{copied, levelBy, halvedBy, refined, builtBy}
 use Rattle.planes.proofs.Prepared.{fused-four, fused-wide, fused-whole, within-here}
 use Rattle.planes.proofs.Parts.{refined-kept}
-use Rattle.planes.proofs.Whole.{ready, copied-placed}
+use Rattle.planes.proofs.Whole.{copied-placed}
 use Rattle.planes.proofs.Built.{refining-placed}
 use Rattle.planes.proofs.build.build_plane.Reads as build-plane-reads
 use Rattle.planes.proofs.build.build_plane_by.Reads as build-plane-by-reads
-use Rattle.demands.proofs.Demand.{both-ways, with-needs, build-plane-contract}
 use Rattle.demands.proofs.Enough.{length-kept}
 use Rattle.demands.proofs.Kept.{Has, Off, has-after, steps-keep, copied-past, stored-off, refined-past}
-use Rattle.paths.specs.Paths.{fusedHalving, genericHalving, placeAt, ZeroMargins, FusedMarginsZero, SameInput, inTurn, AllLong}
+use Rattle.paths.specs.Paths.{fusedHalving, genericHalving, placeAt, ZeroMargins, FusedMarginsZero}
 use Rattle.paths.proofs.Swaps.{steps-alike}
 use Rattle.paths.proofs.Equation.{two-paths}
 use Rattle.paths.proofs.Picture.{off-row, stored-long}
@@ -98,7 +90,7 @@ unfolding chosen
 cubic-chosen z f e four = let is = ap chosen (is-nat-pos z 4 four) in let both : Filter Cubic ≡ Filter f = sym is ∙ e in cc
 
 -- ---- a canvas of frame and spill whose fused levels have margins of zeros
-record Clean (q : Layout) (len long : ℕ) (c : List ℕ) : Type 0 where
+pub record Clean (q : Layout) (len long : ℕ) (c : List ℕ) : Type 0 where
   pub same : length c ≡ long
   pub margins : FusedMarginsZero q len c
 
@@ -106,7 +98,7 @@ module _ (q : Layout) {m sp len spill scratch : ℕ} (r : Ready q m sp len spill
   abbrev Zeros : List ℕ → Type 0
   Zeros = Clean q len (len + spill)
 
-  stored-yes : (l : ℕ) → (q .opts .full || leb 2 l) ≡ true
+  pub stored-yes : (l : ℕ) → (q .opts .full || leb 2 l) ≡ true
   stored-yes l = rw full
 
   within : (l : ℕ) → 1 ≤ l → l < levelsOf q → Within (len + spill) scratch (offsetAt q (l - 1)) (q .pitch) (regionAt q l)
@@ -193,7 +185,7 @@ module _ (q : Layout) {m sp len spill scratch : ℕ} (r : Ready q m sp len spill
         (stays (copied q src sp) c clean (length-kept (λ N A. copied-placed any-bytes q src src r (allows-less (omega arith) A) any-row some full) c (clean .same))
         (λ l y j sl tl fl lt from to. has-after (copied-past q src sp (width-first q (allowed q (r .layout)) full) (omega (arith, first-before l sl)))))
 
-    built-same : (c : List ℕ) → Zeros c → builtBy true q src sp len c ≡ builtBy false q src sp len c
+    pub built-same : (c : List ℕ) → Zeros c → builtBy true q src sp len c ≡ builtBy false q src sp len c
     unfolding builtBy
     built-same c clean = go (eqb (levelsOf q) 0) refl
       where
@@ -214,7 +206,7 @@ module _ (q : Layout) {m sp len spill scratch : ℕ} (r : Ready q m sp len spill
         stays (refined q) c clean (length-kept (λ N A. refined-kept q (refining-placed any-bytes q r A (λ z. any-ups (upscale (q .opts .«scale_up»))) some)) c (clean .same))
         (λ l y j sl tl fl lt from to. has-after (refined-past q r some full (omega (arith, fused-wide q len l fl, offset-mono q 1 l sl))))
 
-    built-zeros : (c : List ℕ) → Zeros c → Zeros (builtBy false q src sp len c)
+    pub built-zeros : (c : List ℕ) → Zeros c → Zeros (builtBy false q src sp len c)
     unfolding builtBy
     built-zeros c clean = go (eqb (levelsOf q) 0) refl
       where
@@ -223,75 +215,3 @@ module _ (q : Layout) {m sp len spill scratch : ℕ} (r : Ready q m sp len spill
         go false e =
             let some : 1 ≤ levelsOf q = omega (arith, eqb-false (levelsOf q) 0 e) in
             refined-zeros some _ (halved-zeros (chosen (q .opts .«scale_down»)) _ (first-zeros some c clean))
-
--- ---- the frame
-module _ (q : Layout) (sp scratch : ℕ) (full : q .opts .full ≡ true) (src F : List ℕ) (e : buildNo q (length src) sp (length F) (spillNeed q) scratch ≡ 0) (margins : FusedMarginsZero q (length F) F) where
-  abbrev canvas : List ℕ
-  canvas = F ++ replicate (spillNeed q) 0
-
-  abbrev accepted : Ready q (length src) sp (length F) (spillNeed q) scratch
-  accepted = ready q (length src) sp (length F) (spillNeed q) scratch e
-
-  margin-there : (l y j : ℕ) → 1 ≤ l → l < levelsOf q → y < heightAt q l → j < q .pitch → placeAt q l y j < length F
-  margin-there l y j some there lt to = omega (arith, row-in y (heightAt q l) (q .pitch) lt, within-here q accepted l some there refl refl (stored-yes q accepted full l) .target)
-
-  clean : Clean q (length F) (length F + spillNeed q) canvas
-  clean =
-      record {
-        same = length-append F (replicate (spillNeed q) 0) ∙ omega (arith, length-replicate {A = ℕ} (spillNeed q) 0);
-        margins = λ l some there fl y j lt from to. List·getD-append F (replicate (spillNeed q) 0) 0 (placeAt q l y j) (margin-there l y j some there lt to) ∙ margins l some there fl y j lt from to;
-      }
-
-  pub paths-alike : frameBy true q src sp F ≡ frameBy false q src sp F
-  unfolding frameBy
-  paths-alike = ap (take (length F)) (built-same q accepted full src canvas clean)
-
-  -- what is left is such a frame again
-  left-long : length (frameBy false q src sp F) ≡ length F
-  unfolding frameBy
-  left-long = length-take-le (length F) _ (omega (arith, built-zeros q accepted full src canvas clean .same))
-
-  margins-left : FusedMarginsZero q (length F) (frameBy false q src sp F)
-  unfolding frameBy
-  margins-left l some there fl y j lt from to = getD-take (length F) _ (placeAt q l y j) 0 (margin-there l y j some there lt to) ∙ built-zeros q accepted full src canvas clean .margins l some there fl y j lt from to
-
--- pictures in turn
-pub turns-alike : (q : Layout) (n sp scratch : ℕ) → q .opts .full ≡ true → (srcs : List (List ℕ)) → AllLong n srcs → (F : List ℕ) → buildNo q n sp (length F) (spillNeed q) scratch ≡ 0 → FusedMarginsZero q (length F) F → inTurn true q sp srcs F ≡ inTurn false q sp srcs F
-unfolding inTurn
-turns-alike q n sp scratch full [] long F e margins = refl
-turns-alike q n sp scratch full (src ∷ later) long F e margins =
-    let here : buildNo q (length src) sp (length F) (spillNeed q) scratch ≡ 0 = rw (long .0) e in
-    let G = frameBy false q src sp F in
-    let same : length G ≡ length F = left-long q sp scratch full src F here margins in
-    ap (inTurn true q sp later) (paths-alike q sp scratch full src F here margins)
-    ∙ turns-alike q n sp scratch full later (long .1) G (rw same e) (rw same (margins-left q sp scratch full src F here margins))
-
--- ---- a frame of zeros
-zero-margins : (q : Layout) (len : ℕ) → FusedMarginsZero q len (replicate len 0)
-zero-margins q len l some there fl y j lt from to = zero-at (placeAt q l y j)
-  where
-    zero-at : (i : ℕ) → getD (replicate {A = ℕ} len 0) i 0 ≡ 0
-    zero-at i = ⊎-elim (λ (lt : i < len). getD-replicate len i 0 0 lt) (λ (le : len ≤ i). List·getD-eq-default (replicate len 0) 0 (omega (arith, length-replicate {A = ℕ} len 0))) (below-or i len)
-
--- ---- about the calls
--- of path, frame, spill, scratch, layout, source and source pitch
-pub build-plane-by-contract : (κs : Lfts 4) → Contract (build-plane-by-reads.Post κs) (λ x t e. LeavesBy (x .0) (x .1 .1 .1 .1 .0) (now (x .1 .1 .1 .1 .1 .0)) (x .1 .1 .1 .1 .1 .1 .0) (now (x .1 .0)) (now (x .1 .1 .0)) (now (x .1 .1 .1 .0)) (tested t) (now (e .1 .0)) (now (e .1 .1 .0)) (now (e .1 .1 .1 .0)))
-build-plane-by-contract κs x t e = both-ways
-
--- what a build that was done leaves
-done-leaves : (fuse : Bool) (q : Layout) (src : List ℕ) (sp : ℕ) (F S X : List ℕ) {k : ℕ} {F' S' X' : List ℕ} → LeavesBy fuse q src sp F S X k F' S' X' → k ≡ 0 → (buildNo q (length src) sp (length F) (spillNeed q) (scratchNeed q) ≡ 0) × (F' ≡ frameBy fuse q src sp F)
-done-leaves fuse q src sp F S X leaves done =
-    let n = planeNo q src sp F S X in
-    let none : n ≡ 0 = sym (ap (λ (a : Answer (List ℕ)). a .no) (leaves .0)) ∙ done in
-    (with-needs q (length src) sp (length F) (length S) (length X) none, ap (λ (a : Answer (List ℕ)). a .value) (leaves .0 ∙ sym (given n (frameBy fuse q src sp F) F none)))
-
--- the site's answer: what `build_plane` and, with the fused path off, `build_plane_by` leave by a full record in one frame, in which the margins of the levels that are fused are zeros
-pub calls-alike : (κs κs' : Lfts 4) → Promises (build-plane-reads.Post κs) (λ x t e. Promises (build-plane-by-reads.Post κs') (λ y u d. y .0 ≡ false → SameInput (x .1 .1 .1 .0) (y .1 .1 .1 .1 .0) (now (x .1 .1 .1 .1 .0)) (now (y .1 .1 .1 .1 .1 .0)) (x .1 .1 .1 .1 .1 .0) (y .1 .1 .1 .1 .1 .1 .0) (now (x .0)) (now (y .1 .0)) → tested t ≡ 0 → tested u ≡ 0 → x .1 .1 .1 .0 .opts .full ≡ true → FusedMarginsZero (x .1 .1 .1 .0) (length (now (x .0))) (now (x .0)) → now (e .0) ≡ now (d .1 .0)))
-calls-alike κs κs' x t e p y u d p' off same fine fine' full margins =
-    let q = x .1 .1 .1 .0 in
-    let src = now (x .1 .1 .1 .1 .0) in
-    let sp = x .1 .1 .1 .1 .1 .0 in
-    let F = now (x .0) in
-    let with-path = done-leaves true q src sp F (now (x .1 .0)) (now (x .1 .1 .0)) (build-plane-contract κs x t e .0 p) fine in
-    let without = done-leaves (y .0) (y .1 .1 .1 .1 .0) (now (y .1 .1 .1 .1 .1 .0)) (y .1 .1 .1 .1 .1 .1 .0) (now (y .1 .0)) (now (y .1 .1 .0)) (now (y .1 .1 .1 .0)) (build-plane-by-contract κs' y u d .0 p') fine' in
-    with-path .1 ∙ paths-alike q sp (scratchNeed q) full src F (with-path .0) margins ∙ sym (without .1 ∙ rw (off, same .one-layout, same .one-source, same .one-pitch, same .one-frame) refl)

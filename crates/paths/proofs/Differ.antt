@@ -49,7 +49,11 @@ bytesAt q sp src F i =
     ∷ getD (frameBy false q src sp F) i 0
     ∷ []
 
--- full, 16x8, pitch 17: a source of 0s in a frame of 255s. Byte 152 is the margin of row 0 of level 1
-pub margin-differs : bytesAt (plane true 16 8 2 17) 16 (replicate 128 0) (replicate 204 255) 152 ≡ (0 ∷ 0 ∷ 255 ∷ [])
+-- by a full record a source of 0s in a frame of 255s, by one that isn't full a source of 255s in a frame of zeros:
+--     16x8     byte 152, the margin of row 0 of level 1
+--     24x16    byte 630, column 5 of row 1 of level 2
+--     32x16    byte 152, the margin of row 0 of level 2
+--     48x32    byte 654, column 4 of row 1 of level 3
+pub differ : (bytesAt (plane true 16 8 2 17) 16 (replicate 128 0) (replicate 204 255) 152 ∷ bytesAt (plane true 24 16 3 25) 24 (replicate 384 0) (replicate 700 255) 630 ∷ bytesAt (plane false 32 16 3 17) 32 (replicate 512 255) (replicate 204 0) 152 ∷ bytesAt (plane false 48 32 4 26) 48 (replicate 1536 255) (replicate 728 0) 654 ∷ []) ≡ ((0 ∷ 0 ∷ 255 ∷ []) ∷ (0 ∷ 0 ∷ 4 ∷ []) ∷ (0 ∷ 0 ∷ 255 ∷ []) ∷ (0 ∷ 253 ∷ 255 ∷ []) ∷ [])
 unfolding buildNo layoutNo lentNo accepted settingsNo levelsIn total reduced tab meansOf sixes chosen headed horizontalAt horizontalRow fetch put steps offsetAt cubicFits fusedAt wholeLine restLine innerLine verticalLine verticalRows halveRun horizontalRows fromStored fused copyRun closeUp fromSource copied levelBy halvedBy refined builtBy frameBy
-margin-differs = refl
+differ = refl

@@ -15,8 +15,8 @@ use Rattle.filters.specs.declared.halving.ReduceFilter.the-variants.{Cubic}
 use Rattle.filters.proofs.Tests.{below-or}
 use Rattle.layouts.specs.declared.layout.Layout.{Layout}
 use Rattle.layouts.specs.declared.layout.Region.{Region}
-use Rattle.layouts.specs.Storing.{put, steps}
-use Rattle.layouts.specs.Layout.{widthAt, heightAt, offsetAt, regionAt}
+use Rattle.layouts.specs.Storing.{put}
+use Rattle.layouts.specs.Layout.{widthAt, offsetAt, regionAt}
 use Rattle.layouts.specs.Margins.{clearFrom}
 use Rattle.layouts.proofs.Loops.{row-in}
 use Rattle.builder.specs.Halving.{wholeOf, fromStored, fused}
