@@ -48,7 +48,7 @@ use Rattle.demands.proofs.Kept.{Has, Off, has-after, steps-keep, copied-past, s
 use Rattle.paths.specs.Paths.{fusedHalving, genericHalving, placeAt, ZeroMargins, FusedMarginsZero}
 use Rattle.paths.proofs.Swaps.{steps-alike}
 use Rattle.paths.proofs.Equation.{two-paths}
-use Rattle.paths.proofs.Picture.{off-row, stored-long}
+use Rattle.paths.proofs.Picture.{off-front, stored-long}
 
 -- ---- zeros stored over zeros
 put-same : (c ys : List ℕ) (at : ℕ) → at + length ys ≤ length c → ((i : ℕ) → i < length ys → getD ys i 0 ≡ getD c (at + i) 0) → put c at ys ≡ c
@@ -120,11 +120,7 @@ module _ (q : Layout) {m sp len spill scratch : ℕ} (r : Ready q m sp len spill
       (λ (ge : k ≤ l).
       ⊎-elim
       (λ (e : k ≡ l).
-      rw e
-      (⊎-elim
-      (λ (a : placeAt q l y j < placeAt q l z 0). inl (omega arith))
-      (λ (b : placeAt q l z 0 + (2 * widthAt q l - 0) ≤ placeAt q l y j). inr (omega arith))
-      (off-row (offsetAt q l) p y z j 0 (2 * widthAt q l) to (omega arith) (within l sl tl .fits) (λ same. inr from))))
+      rw e (off-front (offsetAt q l) p y z j (2 * widthAt q l) from to))
       (λ (lt : k < l). inr (omega (arith, row-k, within k sk tk .fits, offset-apart q k l lt, bytes-later q k sk)))
       (eq-or-lt-of-le ge))
       (below-or l k)

@@ -1,10 +1,10 @@
 -- Order 2's sentences (`OnePicture` of specs/Paths.antt), of a level that both ways can make in a frame that building accepts. Assumes nothing.
 -- First what zeroing margins and generic halving leave as it is; then the equation and the sentences, about the definitions; last about the two functions, whose contracts stand there beside `Post`, what the checker itself reads of a call's `ensures`.
-use mathlib.Core.Path.{_≡_, refl, sym, ap, _∙_}
+use mathlib.Core.Path.{_≡_, refl, ap, _∙_}
 use mathlib.Core.List.{List}
 use mathlib.Core.Logic.{_⊎_, inl, inr, ⊎-elim}
 use Prim.Native.Nat.{ℕ, _+_, _*_, _-_, _≤_, _<_}
-use native.Mathlib.Nat.{eq-or-lt-of-le}
+use native.Mathlib.Nat.{mul-le-mul-right}
 use native.Mathlib.Omega.{arith}
 use lib.ListN.{length, getD, replicate, length-replicate, getD-replicate}
 use contract.Lifetimes.{Lfts}
@@ -35,17 +35,14 @@ use Rattle.demands.proofs.Demand.{both-ways}
 use Rattle.paths.specs.Paths.{fusedHalving, genericHalving, BothWays, ForLevel, MarginsZeroed, placeAt, OnePicture}
 use Rattle.paths.proofs.Equation.{two-paths}
 
--- rows p apart from o on: column j of row y, and the columns from a to e of row z
-pub off-row : (o p y z j a e : ℕ) → j < p → a ≤ e → e ≤ p → (y ≡ z → (j < a) ⊎ (e ≤ j)) → Off (o + y * p + j) (o + z * p + a) (e - a)
-off-row o p y z j a e in' le fits same =
-    ⊎-elim
-    (λ (lt : y < z). inl (omega (arith, row-in y z p lt)))
-    (λ (from : z ≤ y).
-    ⊎-elim
-    (λ (eq : z ≡ y). let e' : z * p ≡ y * p = ap (λ (k : ℕ). k * p) eq in ⊎-elim (λ (b : j < a). inl (omega arith)) (λ (b : e ≤ j). inr (omega arith)) (same (sym eq)))
-    (λ (lt : z < y). inr (omega (arith, row-in z y p lt)))
-    (eq-or-lt-of-le from))
-    (below-or y z)
+-- ---- rows p apart from o on
+-- column j of row y, past the first n columns: in those of no row
+pub off-front : (o p y z j n : ℕ) → n ≤ j → j < p → Off (o + y * p + j) (o + z * p) n
+off-front o p y z j n from to = ⊎-elim (λ (lt : y < z). inl (omega (arith, row-in y z p lt))) (λ (le : z ≤ y). inr (omega (arith, mul-le-mul-right p le))) (below-or y z)
+
+-- and among them: in no margin
+off-margin : (o p y z j n : ℕ) → j < n → n ≤ p → Off (o + y * p + j) (o + z * p + n) (p - n)
+off-margin o p y z j n in' fits = ⊎-elim (λ (lt : z < y). inr (omega (arith, row-in z y p lt))) (λ (le : y ≤ z). inl (omega (arith, mul-le-mul-right p le))) (below-or z y)
 
 module _ {len scratch base p : ℕ} {t : Region} (w : Within len scratch base p t) where
   abbrev n : ℕ
@@ -79,18 +76,11 @@ module _ {len scratch base p : ℕ} {t : Region} (w : Within len scratch base p 
   pub stored-long : (f : ReduceFilter) (c : List ℕ) → length c ≡ len → length (fromStored f base p t c) ≡ len
   stored-long f c e = length-kept (λ N A. stored-placed any-bytes A w f) c e
 
-  -- a byte of a margin
-  pub margin-kept : (y j v : ℕ) → y < t .height → n ≤ j → j < p → KeepsByte (place y j) v (fromStored Cubic base p t)
-  margin-kept y j v lt from to =
-      stored-off Cubic base p t
-      (λ z m.
-      ⊎-elim (λ (a : place y j < place z 0). inl (omega arith)) (λ (b : place z 0 + (n - 0) ≤ place y j). inr (omega arith)) (off-row (t .offset) p y z j 0 n to (omega arith) (w .fits) (λ e. inr from)))
-
   -- a byte that lies in no row of the level
   others-kept : {i v : ℕ} → (i < t .offset) ⊎ (t .offset + t .height * p ≤ i) → KeepsByte i v (fromStored Cubic base p t) × KeepsByte i v (clearFrom n t p)
   others-kept {i} apart =
-      let off : (z a k : ℕ) → z < t .height → a + k ≤ p → Off i (place z a) k = λ z a k m fits. ⊎-elim (λ (lt : i < t .offset). inl (omega arith)) (λ (le : t .offset + t .height * p ≤ i). inr (omega (arith, row-in z (t .height) p m))) apart in
-      (stored-off Cubic base p t (λ z m. ⊎-elim (λ (lt : i < place z 0). inl (omega arith)) (λ (le : place z 0 + n ≤ i). inr (omega arith)) (off z 0 n m (omega (arith, w .fits)))), clear-off n p t (λ z m. off z n (p - n) m (omega (arith, w .fits))))
+      let off : (z at k : ℕ) → z < t .height → t .offset + z * p ≤ at → at + k ≤ t .offset + z * p + p → Off i at k = λ z at k m from to. ⊎-elim (λ (lt : i < t .offset). inl (omega arith)) (λ (le : t .offset + t .height * p ≤ i). inr (omega (arith, row-in z (t .height) p m))) apart in
+      (stored-off Cubic base p t (λ z m. off z _ n m (omega arith) (omega (arith, w .fits))), clear-off n p t (λ z m. off z _ (p - n) m (omega arith) (omega (arith, w .fits))))
 
 -- ---- about the definitions
 module _ (q : Layout) (l : ℕ) (c : List ℕ) (b : BothWays q (length c) l) where
@@ -113,10 +103,10 @@ module _ (q : Layout) (l : ℕ) (c : List ℕ) (b : BothWays q (length c) l) whe
         generic-long = long;
         agree = λ y j lt in'.
             cleared (placeAt q l y j)
-            ∙ has-after {c = g} (clear-off (2 * widthAt q l) (q .pitch) (regionAt q l) (λ z m. off-row (offsetAt q l) (q .pitch) y z j (2 * widthAt q l) (q .pitch) (omega (arith, w .fits)) (w .fits) (omega arith) (λ e. inl in')))
+            ∙ has-after {c = g} (clear-off (2 * widthAt q l) (q .pitch) (regionAt q l) (λ z m. off-margin (offsetAt q l) (q .pitch) y z j (2 * widthAt q l) in' (w .fits)))
             (record { there = omega (arith, long, row-within w lt, w .fits); is = refl }) .is;
         zeroed = λ y j lt from to. cleared (placeAt q l y j) ∙ clear-zero w g y j lt from to;
-        kept = λ y j lt from to. has-after {c = c} (margin-kept w y j (getD c (placeAt q l y j) 0) lt from to) (record { there = omega (arith, row-within w lt); is = refl }) .is;
+        kept = λ y j lt from to. has-after {c = c} (stored-off Cubic (offsetAt q (l - 1)) (q .pitch) (regionAt q l) (λ z m. off-front (offsetAt q l) (q .pitch) y z j (2 * widthAt q l) from to)) (record { there = omega (arith, row-within w lt); is = refl }) .is;
         others = λ i lt apart.
             let k = others-kept w {i = i} {v = getD c i 0} apart in
             let has : Has i (getD c i 0) g = has-after (k .0) (record { there = lt; is = refl }) in
