@@ -15,16 +15,16 @@ use Rattle.layouts.specs.Margins.{cubicFits, fusedAt}
 use Rattle.layouts.specs.Refusals.{layoutNo, frameNo}
 use Rattle.layouts.specs.Answers.{endAnswer}
 
--- a plane of w by h at pel 2, with the other settings left out
-plane : ℕ → ℕ → ℕ → ℕ → ℕ → Layout
-plane w h levels shift pitch =
+-- a plane of w by h, full or not, with the other settings left out
+unfoldable pub plane : ℕ → Bool → ℕ → ℕ → ℕ → ℕ → ℕ → Layout
+plane pel full w h levels shift pitch =
     record {
       opts = record {
-        pel = pos 2;
+        pel = pos pel;
         gpu = pos 1;
         «scale_down» = pos 4;
         «scale_up» = pos 0;
-        full = true;
+        full = full;
         rc = false;
         lean = false;
         levels = pos levels;
@@ -39,7 +39,7 @@ plane w h levels shift pitch =
 pub computed : List ℕ
 unfolding plane layoutNo frameNo accepted settingsNo levelsIn reduced offsetAt total
 computed =
-    let q = plane 64 48 4 0 64 in
+    let q = plane 2 true 64 48 4 0 64 in
     offsetAt q 1
     ∷ endAnswer q .no
     ∷ endAnswer q .value
@@ -59,9 +59,9 @@ by-hand = refl
 pub fuses : List Bool
 unfolding plane fusedAt cubicFits reduced offsetAt total
 fuses =
-    fusedAt (plane 16 16 3 0 32) 3000 1
-    ∷ fusedAt (plane 28 16 3 1 32) 3000 1
-    ∷ fusedAt (plane 20 16 3 0 32) 3000 1
+    fusedAt (plane 2 true 16 16 3 0 32) 3000 1
+    ∷ fusedAt (plane 2 true 28 16 3 1 32) 3000 1
+    ∷ fusedAt (plane 2 true 20 16 3 0 32) 3000 1
     ∷ []
 
 pub fuses-said : fuses ≡ (true ∷ false ∷ false ∷ [])

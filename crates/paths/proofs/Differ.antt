@@ -1,10 +1,9 @@
 -- Where whole builds differ with the fused path on and off: the smallest planes, computed. Assumes nothing.
 -- In a frame that wasn't zeroed a margin keeps what it held, and a later level's other columns read it, half a pitch away. By a record that isn't full a margin may hold what level 1 left there before its rows closed up.
 use mathlib.Core.Path.{_≡_, refl}
-use mathlib.Core.Bool.{Bool, true, false}
+use mathlib.Core.Bool.{true, false}
 use mathlib.Core.List.{List, [], _∷_}
 use Prim.Native.Nat.{ℕ}
-use lib.IntN.{pos}
 use lib.ListN.{length, getD, replicate}
 use Rattle.settings.specs.Numbers.{total}
 use Rattle.settings.specs.Sizes.{reduced, levelsIn}
@@ -18,30 +17,10 @@ use Rattle.layouts.specs.Refusals.{layoutNo, lentNo, buildNo}
 use Rattle.layouts.specs.Margins.{cubicFits, fusedAt}
 use Rattle.builder.specs.Canvas.{fetch, copyRun}
 use Rattle.builder.specs.Halving.{wholeLine, restLine, innerLine, verticalLine, verticalRows, halveRun, horizontalRows, fromStored, fused, closeUp, fromSource}
+use Rattle.demands.proofs.ByHand.{plane}
 use Rattle.planes.specs.Build.{copied, levelBy, halvedBy, refined, builtBy, frameBy}
 
--- at pel 1, down 4: full or not, width, height, levels, pitch
-abbrev plane : Bool → ℕ → ℕ → ℕ → ℕ → Layout
-plane full w h levels pitch =
-    record {
-      opts = record {
-        pel = pos 1;
-        gpu = pos 0;
-        «scale_down» = pos 4;
-        «scale_up» = pos 0;
-        full = full;
-        rc = false;
-        lean = false;
-        levels = pos levels;
-        width = pos w;
-        height = pos h;
-      };
-      «x_shift» = 0;
-      «y_shift» = 0;
-      pitch = pitch;
-    }
-
--- the build's number, and byte i with the fused path on and off; source and frame are so many bytes of one value each
+-- the build's number, and byte i with the fused path on and off
 abbrev bytesAt : Layout → ℕ → List ℕ → List ℕ → ℕ → List ℕ
 bytesAt q sp src F i =
     buildNo q (length src) sp (length F) (spillNeed q) (scratchNeed q)
@@ -54,6 +33,6 @@ bytesAt q sp src F i =
 --     24x16    byte 630, column 5 of row 1 of level 2
 --     32x16    byte 152, the margin of row 0 of level 2
 --     48x32    byte 654, column 4 of row 1 of level 3
-pub differ : (bytesAt (plane true 16 8 2 17) 16 (replicate 128 0) (replicate 204 255) 152 ∷ bytesAt (plane true 24 16 3 25) 24 (replicate 384 0) (replicate 700 255) 630 ∷ bytesAt (plane false 32 16 3 17) 32 (replicate 512 255) (replicate 204 0) 152 ∷ bytesAt (plane false 48 32 4 26) 48 (replicate 1536 255) (replicate 728 0) 654 ∷ []) ≡ ((0 ∷ 0 ∷ 255 ∷ []) ∷ (0 ∷ 0 ∷ 4 ∷ []) ∷ (0 ∷ 0 ∷ 255 ∷ []) ∷ (0 ∷ 253 ∷ 255 ∷ []) ∷ [])
-unfolding buildNo layoutNo lentNo accepted settingsNo levelsIn total reduced tab meansOf sixes chosen headed horizontalAt horizontalRow fetch put steps offsetAt cubicFits fusedAt wholeLine restLine innerLine verticalLine verticalRows halveRun horizontalRows fromStored fused copyRun closeUp fromSource copied levelBy halvedBy refined builtBy frameBy
+pub differ : (bytesAt (plane 1 true 16 8 2 0 17) 16 (replicate 128 0) (replicate 204 255) 152 ∷ bytesAt (plane 1 true 24 16 3 0 25) 24 (replicate 384 0) (replicate 700 255) 630 ∷ bytesAt (plane 1 false 32 16 3 0 17) 32 (replicate 512 255) (replicate 204 0) 152 ∷ bytesAt (plane 1 false 48 32 4 0 26) 48 (replicate 1536 255) (replicate 728 0) 654 ∷ []) ≡ ((0 ∷ 0 ∷ 255 ∷ []) ∷ (0 ∷ 0 ∷ 4 ∷ []) ∷ (0 ∷ 0 ∷ 255 ∷ []) ∷ (0 ∷ 253 ∷ 255 ∷ []) ∷ [])
+unfolding plane buildNo layoutNo lentNo accepted settingsNo levelsIn total reduced tab meansOf sixes chosen headed horizontalAt horizontalRow fetch put steps offsetAt cubicFits fusedAt wholeLine restLine innerLine verticalLine verticalRows halveRun horizontalRows fromStored fused copyRun closeUp fromSource copied levelBy halvedBy refined builtBy frameBy
 differ = refl
