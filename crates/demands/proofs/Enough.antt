@@ -1,4 +1,4 @@
--- Document 01's spill need covers every store: a build keeps the length of frame and spill, so that all that it stores lies in them (law `put-reaches`). Assumes nothing.
+-- Document 01's spill need covers every store: a build keeps the length of frame and spill, so that all that it stores lies in them (law `put-reaches`). First a stage's length, then the build's. Assumes nothing.
 use mathlib.Core.Path.{_≡_, _∙_}
 use mathlib.Core.List.{List, _++_}
 use Prim.Native.Nat.{ℕ, _+_, _≤_}

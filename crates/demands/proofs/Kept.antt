@@ -1,5 +1,5 @@
--- One byte of the canvas through the stages of a build: what each stage leaves of it, and what it makes of the first byte of a level and the last of a row.
--- First a run that is stored anywhere, and stages that leave the byte; then loops over rows; copying; later levels; last the planes of level 0. Assumes nothing.
+-- One byte of the canvas through the stages of a build, and through zeroing margins: what each leaves of it, and what it makes of the first byte of a level and the last of a row.
+-- First a run that is stored anywhere, and stages that leave the byte; then loops over rows; copying; a stored level, and margins zeroed; later levels; what refining leaves; the first byte of a level; last the planes of level 0. Assumes nothing.
 use mathlib.Core.Path.{_≡_, refl, ap, _∙_, subst}
 use mathlib.Core.List.{List}
 use mathlib.Core.Logic.{_⊎_, inl, inr, ⊎-elim}

@@ -1,5 +1,5 @@
 -- A full build with the fused path on and off, where the margins of the levels that are fused are zeros before: the canvas is the same, and the margins are zeros still. Assumes nothing.
--- The reason: halving stores 2 * width bytes of a row, and nothing else of a full build reaches a margin; so one that was zeros still is when its level is made and when a later one reads it, and zeroing it changes nothing.
+-- The reason: halving stores 2 * width bytes of a row, and nothing else of a full build reaches the margin of a level that is fused; so one that was zeros still is when its level is made and when a later one reads it, and zeroing it changes nothing.
 -- First zeros stored over zeros; then where margins lie; then a level; last all of them, and the build.
 use mathlib.Core.Path.{_≡_, refl, sym, ap, subst, _∙_}
 use mathlib.Core.Bool.{Bool, true, false, cond, _||_}
@@ -41,8 +41,6 @@ use Rattle.planes.proofs.Prepared.{fused-four, fused-wide, fused-whole, within-
 use Rattle.planes.proofs.Parts.{refined-kept}
 use Rattle.planes.proofs.Whole.{copied-placed}
 use Rattle.planes.proofs.Built.{refining-placed}
-use Rattle.planes.proofs.build.build_plane.Reads as build-plane-reads
-use Rattle.planes.proofs.build.build_plane_by.Reads as build-plane-by-reads
 use Rattle.demands.proofs.Enough.{length-kept}
 use Rattle.demands.proofs.Kept.{Has, Off, has-after, steps-keep, copied-past, stored-off, refined-past}
 use Rattle.paths.specs.Paths.{fusedHalving, genericHalving, placeAt, ZeroMargins, FusedMarginsZero}

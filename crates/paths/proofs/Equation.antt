@@ -58,7 +58,7 @@ module _ {len scratch base p : ℕ} {t : Region} (w : Within len scratch base p 
   half-long : (y : ℕ) (d : List ℕ) → length (half y d) ≡ t .width
   half-long y d = horizontal-length Cubic (t .width) (fetch d (at y) n)
 
-  zeros-long : length zeros ≡ p - n
+  pub zeros-long : length zeros ≡ p - n
   zeros-long = length-replicate (p - n) 0
 
   values-keeps : (y : ℕ) (d : List ℕ) → y < t .height → Long d → Long (values y d)
@@ -67,7 +67,7 @@ module _ {len scratch base p : ℕ} {t : Region} (w : Within len scratch base p 
   halves-keeps : (y : ℕ) (d : List ℕ) → y < t .height → Long d → Long (halves y d)
   halves-keeps y d lt e = put-length d (at y) (half y d) (omega (arith, row-within w lt, w .fits, half-long y d)) ∙ e
 
-  margin-keeps : (y : ℕ) (d : List ℕ) → y < t .height → Long d → Long (margin y d)
+  pub margin-keeps : (y : ℕ) (d : List ℕ) → y < t .height → Long d → Long (margin y d)
   margin-keeps y d lt e = put-length d (at y + n) zeros (omega (arith, row-within w lt, w .fits, zeros-long)) ∙ e
 
   -- vertical values are read off the source, and so before any run that is stored in the level

@@ -1,12 +1,12 @@
 -- Order 2's sentences (`OnePicture` of specs/Paths.antt), of a level that both ways can make in a frame that building accepts. Assumes nothing.
--- First what zeroing margins and generic halving leave as it is; then the equation and the sentences, about the definitions; last about the two functions, whose contracts stand there beside `Post`, what the checker itself reads of a call's `ensures`.
+-- First where rows and margins lie; then what zeroing margins and generic halving leave as it is; then the equation and the sentences, about the definitions; last about the two functions, whose contracts stand there beside `Post`, what the checker itself reads of a call's `ensures`.
 use mathlib.Core.Path.{_≡_, refl, ap, _∙_}
 use mathlib.Core.List.{List}
 use mathlib.Core.Logic.{_⊎_, inl, inr, ⊎-elim}
 use Prim.Native.Nat.{ℕ, _+_, _*_, _-_, _≤_, _<_}
 use native.Mathlib.Nat.{mul-le-mul-right}
 use native.Mathlib.Omega.{arith}
-use lib.ListN.{length, getD, replicate, length-replicate, getD-replicate}
+use lib.ListN.{length, getD, replicate, getD-replicate}
 use contract.Lifetimes.{Lfts}
 use denote.Ref.{now}
 use Rattle.settings.proofs.Outcome.{Contract, Promises}
@@ -21,7 +21,7 @@ use Rattle.layouts.specs.Margins.{clearFrom}
 use Rattle.layouts.proofs.Loops.{row-in}
 use Rattle.builder.specs.Halving.{wholeOf, fromStored, fused}
 use Rattle.builder.specs.Room.{Within}
-use Rattle.builder.proofs.Runs.{put-at, put-before, put-length}
+use Rattle.builder.proofs.Runs.{put-at, put-before}
 use Rattle.builder.proofs.Halves.{row-within}
 use Rattle.builder.proofs.Related.{any-bytes}
 use Rattle.builder.proofs.Placed.{stored-placed}
@@ -33,7 +33,7 @@ use Rattle.demands.proofs.Enough.{length-kept}
 use Rattle.demands.proofs.Kept.{Has, Off, KeepsByte, has-after, steps-keep, steps-hit, stored-off, clear-off}
 use Rattle.demands.proofs.Demand.{both-ways}
 use Rattle.paths.specs.Paths.{fusedHalving, genericHalving, BothWays, ForLevel, MarginsZeroed, placeAt, OnePicture}
-use Rattle.paths.proofs.Equation.{two-paths}
+use Rattle.paths.proofs.Equation.{zeros-long, margin-keeps, two-paths}
 
 -- ---- rows p apart from o on
 -- column j of row y, past the first n columns: in those of no row
@@ -55,13 +55,10 @@ module _ {len scratch base p : ℕ} {t : Region} (w : Within len scratch base p 
   abbrev place : ℕ → ℕ → ℕ
   place y j = t .offset + y * p + j
 
-  zeros-long : length zeros ≡ p - n
-  zeros-long = length-replicate (p - n) 0
-
   -- ---- zeroing margins
   clear-long : (d : List ℕ) → length d ≡ len → length (clearFrom n t p d) ≡ len
   unfolding clearFrom
-  clear-long d e = steps-keep (λ x. length x ≡ len) _ (t .height) d (λ y x lt q. put-length x (place y n) zeros (omega (arith, row-within w lt, w .fits, zeros-long)) ∙ q) e
+  clear-long d e = steps-keep (λ x. length x ≡ len) _ (t .height) d (margin-keeps w) e
 
   clear-zero : (d : List ℕ) (y j : ℕ) → y < t .height → n ≤ j → j < p → getD (clearFrom n t p d) (place y j) 0 ≡ 0
   unfolding clearFrom
@@ -69,7 +66,7 @@ module _ {len scratch base p : ℕ} {t : Region} (w : Within len scratch base p 
       steps-hit (λ x. Unit) (λ x. getD x (place y j) 0 ≡ 0) _ (t .height) y d lt tt (λ z x l u. tt)
       (λ x u.
       let e : place y j ≡ place y n + (j - n) = omega arith in
-      ap (λ (k : ℕ). getD (put x (place y n) zeros) k 0) e ∙ put-at x zeros (place y n) (j - n) (omega (arith, zeros-long)) ∙ getD-replicate (p - n) (j - n) 0 0 (omega arith))
+      ap (λ (k : ℕ). getD (put x (place y n) zeros) k 0) e ∙ put-at x zeros (place y n) (j - n) (omega (arith, zeros-long w)) ∙ getD-replicate (p - n) (j - n) 0 0 (omega arith))
       (λ z x l later e. put-before x zeros (place z n) (place y j) (omega (arith, row-in y z p later)) ∙ e)
 
   -- ---- generic halving
@@ -121,8 +118,18 @@ pub reduce-within-contract : (κs : Lfts 2) → Contract (reduce-within-reads.Po
 reduce-within-contract κs x u e = both-ways
 
 -- called for level l of q on one frame
-pub functions-picture : (κs κs' : Lfts 2) (q : Layout) (l : ℕ) → Promises (reduce-cubic-reads.Post κs) (λ x u f. Promises (reduce-within-reads.Post κs') (λ y v g. BothWays q (length (now (x .0))) l → ForLevel q l (x .1 .1 .0) (x .1 .1 .1 .0) (x .1 .1 .1 .1 .0) → ForLevel q l (y .1 .1 .1 .0) (y .1 .1 .1 .1 .0) (y .1 .1 .1 .1 .1 .0) → y .0 ≡ Cubic → now (y .1 .0) ≡ now (x .0) → OnePicture q l (now (x .0)) (now (f .0)) (now (g .1 .0))))
-functions-picture κs κs' q l x u f p y v g p' b here here' cubic same =
-    let by-fused : now (f .0) ≡ fusedHalving q l (now (x .0)) = reduce-cubic-contract κs x u f .0 p ∙ rw (here .base-is, here .pitch-is, here .target-is) refl in
-    let by-rows : now (g .1 .0) ≡ genericHalving q l (now (x .0)) = reduce-within-contract κs' y v g .0 p' ∙ rw (cubic, here' .base-is, here' .pitch-is, here' .target-is, same) refl in
-    rw (by-fused, by-rows) (one-picture q l (now (x .0)) b)
+module _ (κs κs' : Lfts 2) (q : Layout) (l : ℕ) where
+  abbrev Called : ((c f g : List ℕ) → Type 0) → Type 0
+  Called Says = Promises (reduce-cubic-reads.Post κs) (λ x u f. Promises (reduce-within-reads.Post κs') (λ y v g. BothWays q (length (now (x .0))) l → ForLevel q l (x .1 .1 .0) (x .1 .1 .1 .0) (x .1 .1 .1 .1 .0) → ForLevel q l (y .1 .1 .1 .0) (y .1 .1 .1 .1 .0) (y .1 .1 .1 .1 .1 .0) → y .0 ≡ Cubic → now (y .1 .0) ≡ now (x .0) → Says (now (x .0)) (now (f .0)) (now (g .1 .0))))
+
+  called : (Says : (c f g : List ℕ) → Type 0) → ((c : List ℕ) → BothWays q (length c) l → Says c (fusedHalving q l c) (genericHalving q l c)) → Called Says
+  called Says law x u f p y v g p' b here here' cubic same =
+      let by-fused : now (f .0) ≡ fusedHalving q l (now (x .0)) = reduce-cubic-contract κs x u f .0 p ∙ rw (here .base-is, here .pitch-is, here .target-is) refl in
+      let by-rows : now (g .1 .0) ≡ genericHalving q l (now (x .0)) = reduce-within-contract κs' y v g .0 p' ∙ rw (cubic, here' .base-is, here' .pitch-is, here' .target-is, same) refl in
+      rw (by-fused, by-rows) (law (now (x .0)) b)
+
+  pub functions-equation : Called (λ c f g. MarginsZeroed q l f g)
+  functions-equation = called (λ c f g. MarginsZeroed q l f g) (one-equation q l)
+
+  pub functions-picture : Called (OnePicture q l)
+  functions-picture = called (OnePicture q l) (one-picture q l)

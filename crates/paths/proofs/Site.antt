@@ -1,10 +1,10 @@
 -- The answer to a site that turned the fused path off: when whole builds with the path on and off leave one frame. Assumes nothing.
 -- First a full record, in a frame in which the margins of the levels that are fused are zeros; pictures in turn in such a frame; a frame of zeros. Then another down, by which no level is fused. Last about the calls.
 use mathlib.Core.Path.{_≡_, refl, sym, ap, _∙_}
-use mathlib.Core.Bool.{true, false, cond}
+use mathlib.Core.Bool.{Bool, true, false, cond}
 use mathlib.Core.List.{List, [], _∷_, _++_}
 use mathlib.Core.Logic.{_⊎_, ⊎-elim}
-use Prim.Native.Nat.{ℕ, _+_, _-_, _≤_, _<_}
+use Prim.Native.Nat.{ℕ, suc, _+_, _-_, _≤_, _<_}
 use native.Mathlib.Omega.{arith}
 use lib.Dec.{eqb}
 use lib.ListN.{length, getD, take, replicate, length-append, length-replicate, getD-replicate, List·getD-append, List·getD-eq-default}
@@ -31,7 +31,7 @@ use Rattle.planes.proofs.Whole.{ready}
 use Rattle.planes.proofs.build.build_plane.Reads as build-plane-reads
 use Rattle.planes.proofs.build.build_plane_by.Reads as build-plane-by-reads
 use Rattle.demands.proofs.Demand.{both-ways, build-plane-contract, done-leaves}
-use Rattle.paths.specs.Paths.{placeAt, FusedMarginsZero, SameInput, inTurn, AllLong}
+use Rattle.paths.specs.Paths.{placeAt, OneFrame, FusedMarginsZero, SameInput, Source, inTurn, AllAccepted}
 use Rattle.paths.proofs.Swaps.{steps-alike}
 use Rattle.paths.proofs.Builds.{Clean, stored-yes, built-same, built-zeros}
 
@@ -53,7 +53,7 @@ module _ (q : Layout) (sp scratch : ℕ) (full : q .opts .full ≡ true) (src F 
         margins = λ l some there fl y j lt from to. List·getD-append F (replicate (spillNeed q) 0) 0 (placeAt q l y j) (margin-there l y j some there lt to) ∙ margins l some there fl y j lt from to;
       }
 
-  pub paths-alike : frameBy true q src sp F ≡ frameBy false q src sp F
+  pub paths-alike : OneFrame q src sp F
   unfolding frameBy
   paths-alike = ap (take (length F)) (built-same q accepted full src canvas clean)
 
@@ -66,16 +66,24 @@ module _ (q : Layout) (sp scratch : ℕ) (full : q .opts .full ≡ true) (src F 
   unfolding frameBy
   margins-left l some there fl y j lt from to = getD-take (length F) _ (placeAt q l y j) 0 (margin-there l y j some there lt to) ∙ built-zeros q accepted full src canvas clean .margins l some there fl y j lt from to
 
--- pictures in turn
-pub turns-alike : (q : Layout) (n sp scratch : ℕ) → q .opts .full ≡ true → (srcs : List (List ℕ)) → AllLong n srcs → (F : List ℕ) → buildNo q n sp (length F) (spillNeed q) scratch ≡ 0 → FusedMarginsZero q (length F) F → inTurn true q sp srcs F ≡ inTurn false q sp srcs F
+-- pictures in turn, with the path on for any of them and off for others, leave what they leave with it off for all
+turns-off : (path : ℕ → Bool) (q : Layout) → q .opts .full ≡ true → (sources : List Source) (F : List ℕ) → AllAccepted q (length F) sources → FusedMarginsZero q (length F) F → inTurn path q sources F ≡ inTurn (λ k. false) q sources F
 unfolding inTurn
-turns-alike q n sp scratch full [] long F e margins = refl
-turns-alike q n sp scratch full (src ∷ later) long F e margins =
-    let here : buildNo q (length src) sp (length F) (spillNeed q) scratch ≡ 0 = rw (long .0) e in
+turns-off path q full [] F all margins = refl
+turns-off path q full (s ∷ later) F all margins =
+    let src = s .plane in
+    let sp = s .«src_pitch» in
     let G = frameBy false q src sp F in
-    let same : length G ≡ length F = left-long q sp scratch full src F here margins in
-    ap (inTurn true q sp later) (paths-alike q sp scratch full src F here margins)
-    ∙ turns-alike q n sp scratch full later (long .1) G (rw same e) (rw same (margins-left q sp scratch full src F here margins))
+    let same : length G ≡ length F = left-long q sp (scratchNeed q) full src F (all .0) margins in
+    ap (inTurn (λ k. path (suc k)) q later) (off (path 0) src sp (all .0))
+    ∙ turns-off (λ k. path (suc k)) q full later G (rw same (all .1)) (rw same (margins-left q sp (scratchNeed q) full src F (all .0) margins))
+  where
+    off : (b : Bool) (src : List ℕ) (sp : ℕ) → buildNo q (length src) sp (length F) (spillNeed q) (scratchNeed q) ≡ 0 → frameBy b q src sp F ≡ frameBy false q src sp F
+    off true src sp e = paths-alike q sp (scratchNeed q) full src F e margins
+    off false src sp e = refl
+
+pub turns-alike : (path path' : ℕ → Bool) (q : Layout) → q .opts .full ≡ true → (sources : List Source) (F : List ℕ) → AllAccepted q (length F) sources → FusedMarginsZero q (length F) F → inTurn path q sources F ≡ inTurn path' q sources F
+turns-alike path path' q full sources F all margins = turns-off path q full sources F all margins ∙ sym (turns-off path' q full sources F all margins)
 
 -- a frame of zeros is such a frame
 pub zero-margins : (q : Layout) (len : ℕ) → FusedMarginsZero q len (replicate len 0)
@@ -84,7 +92,7 @@ zero-margins q len l some there fl y j lt from to = zero-at (placeAt q l y j)
     zero-at : (i : ℕ) → getD (replicate {A = ℕ} len 0) i 0 ≡ 0
     zero-at i = ⊎-elim (λ (lt : i < len). getD-replicate len i 0 0 lt) (λ (le : len ≤ i). List·getD-eq-default (replicate len 0) 0 (omega (arith, length-replicate {A = ℕ} len 0))) (below-or i len)
 
-pub paths-zeros : (q : Layout) (sp scratch len : ℕ) (src : List ℕ) → q .opts .full ≡ true → buildNo q (length src) sp len (spillNeed q) scratch ≡ 0 → frameBy true q src sp (replicate len 0) ≡ frameBy false q src sp (replicate len 0)
+pub paths-zeros : (q : Layout) (sp scratch len : ℕ) (src : List ℕ) → q .opts .full ≡ true → buildNo q (length src) sp len (spillNeed q) scratch ≡ 0 → OneFrame q src sp (replicate len 0)
 paths-zeros q sp scratch len src full e =
     let long : length (replicate {A = ℕ} len 0) ≡ len = length-replicate len 0 in
     paths-alike q sp scratch full src (replicate len 0) (rw long e) (rw long (zero-margins q len))
@@ -100,7 +108,7 @@ module _ (q : Layout) (src : List ℕ) (sp len : ℕ) (other : isNat (q .opts .�
   halved-other (Filter f) c = steps-alike (λ d. Unit) (λ i. levelBy true q src sp len f (i + 1)) (λ i. levelBy false q src sp len f (i + 1)) (levelsOf q - 1) (λ i d lt u. tt) (λ i d lt u. level-other f (i + 1) d) c tt
   halved-other NoFilter c = refl
 
-pub other-alike : (q : Layout) (src : List ℕ) (sp : ℕ) (F : List ℕ) → isNat (q .opts .«scale_down») 4 ≡ false → frameBy true q src sp F ≡ frameBy false q src sp F
+pub other-alike : (q : Layout) (src : List ℕ) (sp : ℕ) (F : List ℕ) → isNat (q .opts .«scale_down») 4 ≡ false → OneFrame q src sp F
 unfolding frameBy builtBy
 other-alike q src sp F other =
     let c = F ++ replicate (spillNeed q) 0 in

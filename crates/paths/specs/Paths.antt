@@ -1,16 +1,16 @@
 -- Document 02, order 2: "Two cubic paths, one picture." What is stated of them; proofs/ has the proofs.
--- First the two ways of halving a level, and where both can be gone; then one level: one equation, and the order's own sentences; last when whole builds leave one frame.
+-- First the two ways of halving a level, and where both can be taken; then one level: one equation, and the order's own sentences; last whole builds: what a site asks, the margins that its answer turns on, and pictures in turn.
 use mathlib.Core.Path.{_≡_}
-use mathlib.Core.Bool.{Bool, true, _||_}
+use mathlib.Core.Bool.{Bool, true, false, _||_}
 use mathlib.Core.List.{List, [], _∷_}
 use mathlib.Core.Logic.{_⊎_}
-use Prim.Native.Nat.{ℕ, _+_, _*_, _-_, _≤_, _<_}
+use Prim.Native.Nat.{ℕ, suc, _+_, _*_, _-_, _≤_, _<_}
 use lib.Dec.{leb}
 use lib.ListN.{length, getD}
 use Rattle.filters.specs.declared.halving.ReduceFilter.the-variants.{Cubic}
 use Rattle.layouts.specs.declared.layout.Layout.{Layout}
 use Rattle.layouts.specs.declared.layout.Region.{Region}
-use Rattle.layouts.specs.Layout.{levelsOf, widthAt, heightAt, offsetAt, regionAt}
+use Rattle.layouts.specs.Layout.{levelsOf, widthAt, heightAt, offsetAt, regionAt, spillNeed, scratchNeed}
 use Rattle.layouts.specs.Refusals.{buildNo}
 use Rattle.layouts.specs.Margins.{cubicFits, fusedAt, clearFrom}
 use Rattle.builder.specs.Halving.{fromStored, fused}
@@ -64,12 +64,16 @@ pub record OnePicture (q : Layout) (l : ℕ) (c f g : List ℕ) : Type 0 where
   -- "No other byte of the frame changes in either."
   pub others : (i : ℕ) → i < length c → (i < offsetAt q l) ⊎ (offsetAt q l + heightAt q l * q .pitch ≤ i) → (getD f i 0 ≡ getD c i 0) × (getD g i 0 ≡ getD c i 0)
 
--- ---- whole builds
--- zeros from 2 * width to the pitch, in each row of level l
+-- from 2 * width to the pitch zeros, in each row of level l
 abbrev pub ZeroMargins : Layout → ℕ → List ℕ → Type 0
 ZeroMargins q l c = (y j : ℕ) → y < heightAt q l → 2 * widthAt q l ≤ j → j < q .pitch → getD c (placeAt q l y j) 0 ≡ 0
 
--- and in each level that the fused path makes in a frame of len bytes: so in a frame of zeros
+-- ---- whole builds
+-- "asked whether its figures were still comparable": builds with the fused path on and off leave one frame
+abbrev pub OneFrame : Layout → List ℕ → ℕ → List ℕ → Type 0
+OneFrame q src sp f = frameBy true q src sp f ≡ frameBy false q src sp f
+
+-- of each level that the fused path makes in a frame of len bytes: so in a frame of zeros
 abbrev pub FusedMarginsZero : Layout → ℕ → List ℕ → Type 0
 FusedMarginsZero q len c = (l : ℕ) → 1 ≤ l → l < levelsOf q → fusedAt q len l ≡ true → ZeroMargins q l c
 
@@ -80,12 +84,17 @@ pub record SameInput (q q' : Layout) (src src' : List ℕ) (sp sp' : ℕ) (f f' 
   pub one-pitch : sp' ≡ sp
   pub one-frame : f' ≡ f
 
--- pictures prepared one after the other in one frame, of source planes whose rows are sp apart, with the fused path on or off
-unfoldable pub inTurn : Bool → Layout → ℕ → List (List ℕ) → List ℕ → List ℕ
-inTurn fuse q sp [] f = f
-inTurn fuse q sp (src ∷ later) f = inTurn fuse q sp later (frameBy fuse q src sp f)
+-- a picture's plane, its rows «src_pitch» apart
+pub record Source : Type 0 where
+  pub plane : List ℕ
+  pub «src_pitch» : ℕ
 
--- each of n bytes
-abbrev pub AllLong : ℕ → List (List ℕ) → Type 0
-AllLong n [] = Unit
-AllLong n (src ∷ later) = (length src ≡ n) × AllLong n later
+-- pictures prepared one after the other in one frame; `path k` says whether the fused path is on for picture k
+unfoldable pub inTurn : (ℕ → Bool) → Layout → List Source → List ℕ → List ℕ
+inTurn path q [] f = f
+inTurn path q (s ∷ later) f = inTurn (λ k. path (suc k)) q later (frameBy (path 0) q (s .plane) (s .«src_pitch») f)
+
+-- none of them is refused in a frame of len bytes
+abbrev pub AllAccepted : Layout → ℕ → List Source → Type 0
+AllAccepted q len [] = Unit
+AllAccepted q len (s ∷ later) = (buildNo q (length (s .plane)) (s .«src_pitch») len (spillNeed q) (scratchNeed q) ≡ 0) × AllAccepted q len later
