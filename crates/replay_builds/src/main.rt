@@ -1,4 +1,4 @@
-// Answers cases about whole builds, from standard input to standard output: what the comparison with the Rust runs, and the gate on a list of the Rust's own answers.
+// Answers cases about whole builds, from standard input to standard output: what the comparison with the Rust runs, and the gate on a list of the Rust's own answers, with its fused path off where a case says so.
 // A case is 24 words and bytes: the 14 words of a layout (see `frame_cases`), the source pitch (high and low word), the lengths of source, frame, spill and scratch, whether the whole frame is asked for, whether the earlier bytes are made, their seed and whether the fused path is off; then the source's bytes and, where they aren't made, the earlier bytes of frame, spill and scratch.
 // Made bytes: x becomes 48,271 * x modulo 2^31 - 1, from the seed on, and the byte is floor(x / 2^23); seed 0 makes zeros. Spill and scratch go on where the frame ends.
 // The answer is the number (4 bytes), the sums of frame, spill and scratch after the call (8 bytes each) and, if asked for, the frame.
