@@ -3,8 +3,8 @@
 use crate::rows::mean;
 use crate::rows::rest;
 ghost use mathlib.Core.Path.{_≡_};
-ghost use Prim.Native.Nat.{_+_, _*_, _≤_, _<_};
-ghost use lib.ListN.{length};
+ghost use Prim.Native.Nat.{_+_, _*_, _/_, _%_, _≤_, _<_};
+ghost use lib.ListN.{length, getD};
 ghost use Rattle.filters.specs.Row.{sixes};
 ghost use Rattle.filters.specs.Halve.{chosen, firstRow, lastRow, lastIsMean, isEdge, weigh, restOf, headed};
 ghost use Rattle.filters.specs.Inner.{Low, Reach, Apart, weighedApart, withLast, reducedApart};
@@ -262,9 +262,18 @@ fn take_apart(split: &mut [u8], src: &[u8], n: usize)
 {
     for i in 0..n {
         let at = i + 1;
-        split[at] = src[2 * i];
-        split[n + at] = src[2 * i + 1];
+        let pair = pair_at(src, 2 * i);
+        split[at] = (pair % 256) as u8;
+        split[n + at] = (pair / 256) as u8;
     }
+}
+
+// A pair as one number, its first byte the low one: of bytes two apart the compiler makes no vectors, of such numbers side by side it does. It joins the two reads only in a function of their own.
+fn pair_at(src: &[u8], at: usize) -> u16
+    requires { ⌜ at + 1 < length (now src) ⌝ }
+    ensures { λ r. ⌜ (r % 256 ≡ getD (now (src .entry)) at 0) × (r / 256 ≡ getD (now (src .entry)) (at + 1) 0) ⌝ }
+{
+    (src[at] as u16) + 256 * (src[at + 1] as u16)
 }
 
 // The generic cubic's columns past the whole eights, of a target row that is no edge: a, b and c are the bytes at half pitches.

@@ -20,26 +20,23 @@ loop-holds c = (apart-none (omega arith), refl)
 add-at : tie.Need-add-at Inv-loop μ-loop
 add-at c = omega arith
 
-mul-split : tie.Need-mul-split Inv-loop μ-loop
-mul-split c = omega arith
+mul-pair-at : tie.Need-mul-pair-at Inv-loop μ-loop
+mul-pair-at c = omega arith
 
-shared-slice-read-split : tie.Need-shared-slice-read-split Inv-loop μ-loop
-shared-slice-read-split c = omega arith
+pair-at-requires : tie.Need-pair-at-requires Inv-loop μ-loop
+pair-at-requires c κs = omega arith
+
+cast-split : tie.Need-cast-split Inv-loop μ-loop
+cast-split c = omega arith
 
 slice-write-split : tie.Need-slice-write-split Inv-loop μ-loop
 slice-write-split c = omega arith
 
-mul-split-2 : tie.Need-mul-split-2 Inv-loop μ-loop
-mul-split-2 c = omega arith
+cast-split-2 : tie.Need-cast-split-2 Inv-loop μ-loop
+cast-split-2 c = omega arith
 
 add-split : tie.Need-add-split Inv-loop μ-loop
 add-split c = omega arith
-
-shared-slice-read-split-2 : tie.Need-shared-slice-read-split-2 Inv-loop μ-loop
-shared-slice-read-split-2 c = omega arith
-
-add-split-2 : tie.Need-add-split-2 Inv-loop μ-loop
-add-split-2 c = omega arith
 
 slice-write-split-2 : tie.Need-slice-write-split-2 Inv-loop μ-loop
 slice-write-split-2 c = simp length-set (omega arith)
@@ -51,13 +48,13 @@ loop-less : tie.Need-loop-less Inv-loop μ-loop
 loop-less c = omega arith
 
 loop-again : tie.Need-loop-again Inv-loop μ-loop
-loop-again c = let l = c .before .before .before .loop in (apart-more (l .inv .0) (omega arith) refl refl, simp length-set (l .inv .1))
+loop-again c = let l = c .before .before .loop in (apart-more (l .inv .0) (omega arith) (c .pair-at .ensures .0) (c .pair-at .ensures .1), simp length-set (l .inv .1))
 
 same-length : tie.Need-same-length Inv-loop μ-loop
 same-length c = c .before .loop .inv .1
 
 returns : tie.Need-returns Inv-loop μ-loop
-returns c = let l = c .before .loop in let e : c .before .before .args .n ≡ l .i = omega arith in rw e (rw e at (l .inv .0))
+returns c = let l = c .before .loop in let e : c .before .before .before .before .args .n ≡ l .i = omega arith in rw e (rw e at (l .inv .0))
 
 pub take-apart-spec : {M : Type 1} → statement M
 take-apart-spec =
@@ -67,13 +64,12 @@ take-apart-spec =
     μ-loop
     loop-holds
     add-at
-    mul-split
-    shared-slice-read-split
+    mul-pair-at
+    pair-at-requires
+    cast-split
     slice-write-split
-    mul-split-2
+    cast-split-2
     add-split
-    shared-slice-read-split-2
-    add-split-2
     slice-write-split-2
     add-i
     loop-less
