@@ -1,6 +1,6 @@
 -- A loop that writes out[i] = f i from the front: what it knows at its head, one store more, its end, and parts made by one call. Assumes nothing.
-use mathlib.Core.Path.{_≡_, sym, ap, _∙_}
-use mathlib.Core.List.{List, _++_}
+use mathlib.Core.Path.{_≡_, sym, ap, subst, _∙_}
+use mathlib.Core.List.{List}
 use mathlib.Core.Logic.{⊎-elim}
 use Prim.Native.Nat.{ℕ, _+_, _-_, _≤_, _<_}
 use native.Mathlib.Nat.{le-of-suc-le-suc, eq-or-lt-of-le}
@@ -9,7 +9,8 @@ use native.Mathlib.Omega.{arith}
 use lib.ListN.{length, getD, set, take, drop, length-set}
 use lib.Seq.{getD-set-same, getD-set-other}
 use Rattle.filters.specs.Row.{tab, meanOf, meansOf}
-use Rattle.filters.proofs.Tables.{tab-length, tab-at, is-tab, means-from, part-length, back-length, back-front}
+use Rattle.filters.specs.Inner.{laid}
+use Rattle.filters.proofs.Tables.{tab-length, tab-at, is-tab, take-from, means-from, back-length, back-front}
 
 pub record Filled (f : ℕ → ℕ) (out : List ℕ) (n i : ℕ) : Type 0 where
   pub most : i ≤ n
@@ -37,19 +38,23 @@ filled-fewer h le = record { most = omega (arith, h .most); long = h .long; done
 pub filled-whole : {f : ℕ → ℕ} {out : List ℕ} {n i : ℕ} → Filled f out n i → n ≤ i → out ≡ tab f n
 filled-whole {f} {out} {n} {i} h le = is-tab out f n (h .long) (λ j lt. h .done j (omega arith))
 
--- a part that starts at the first place not yet made, lent and made by the rule
-pub filled-part : {f : ℕ → ℕ} {out : List ℕ} {n i : ℕ} → Filled f out n i → (e : ℕ) → i ≤ e → e ≤ n → (k : List ℕ) → k ≡ tab (λ j. f (i + j)) (e - i) → Filled f (take i out ++ (k ++ drop (e - i) (drop i out))) n e
-filled-part {f} {out} {n} {i} h e ordered fits k made =
-    let whole : length k ≡ e - i = ap length made ∙ tab-length (λ j. f (i + j)) (e - i) in
+-- w bytes laid from the first place not yet made on, by the rule
+pub filled-part : {f : ℕ → ℕ} {out : List ℕ} {n i : ℕ} → Filled f out n i → (w : ℕ) → i + w ≤ n → (k : List ℕ) → k ≡ tab (λ j. f (i + j)) w → Filled f (laid out i w k) n (i + w)
+filled-part {f} {out} {n} {i} h w fits k made =
+    let e = i + w in
+    let width : e - i ≡ w = omega arith in
+    let whole : length k ≡ e - i = ap length made ∙ tab-length (λ j. f (i + j)) w ∙ sym width in
     let inside : e ≤ length out = omega (arith, h .long) in
-    record {
+    subst (λ (m : ℕ). Filled f (laid out i m k) n e) width
+    (record {
       most = fits;
-      long = back-length out k i e ordered inside whole ∙ h .long;
-      done = back-front out k i e ordered inside whole f (h .done) (λ j lt. ap (λ (l : List ℕ). getD l j 0) made ∙ tab-at (λ j. f (i + j)) (e - i) j lt);
-    }
+      long = back-length out k i e (omega arith) inside whole ∙ h .long;
+      done = back-front out k i e (omega arith) inside whole f (h .done) (λ j lt. ap (λ (l : List ℕ). getD l j 0) made ∙ tab-at (λ j. f (i + j)) w j (omega arith));
+    })
 
--- the same for means, made of the two rows from the part's place on
-pub means-part : (a b x y out k : List ℕ) (n i e : ℕ) → Filled (λ j. meanOf (getD a j 0) (getD b j 0)) out n i → i ≤ e → e ≤ n → x ≡ drop i a → y ≡ drop i b → k ≡ meansOf (length (take (e - i) (drop i out))) x y → Filled (λ j. meanOf (getD a j 0) (getD b j 0)) (take i out ++ (k ++ drop (e - i) (drop i out))) n e
-means-part a b x y out k n i e h ordered fits from-a from-b made =
-    filled-part h e ordered fits k
-    (made ∙ ap (λ (m : ℕ). meansOf m x y) (part-length out i e ordered (omega (arith, h .long))) ∙ means-from (e - i) i a b x y from-a from-b)
+-- a block of means, and one of a copy
+pub means-part : (a b : List ℕ) {out o : List ℕ} {n i : ℕ} → Filled (λ j. meanOf (getD a j 0) (getD b j 0)) out n i → (w : ℕ) → i + w ≤ n → o ≡ laid out i w (meansOf w (drop i a) (drop i b)) → Filled (λ j. meanOf (getD a j 0) (getD b j 0)) o n (i + w)
+means-part a b {out} {o} {n} {i} h w fits made = rw made (filled-part h w fits (meansOf w (drop i a) (drop i b)) (means-from w i a b))
+
+pub copied-part : (row : List ℕ) {out o : List ℕ} {n i : ℕ} → Filled (λ j. getD row j 0) out n i → (w : ℕ) → i + w ≤ n → n ≤ length row → o ≡ laid out i w (take w (drop i row)) → Filled (λ j. getD row j 0) o n (i + w)
+copied-part row {out} {o} {n} {i} h w fits long made = rw made (filled-part h w fits (take w (drop i row)) (take-from w i row (omega arith)))

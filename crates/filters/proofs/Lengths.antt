@@ -2,9 +2,7 @@
 use mathlib.Core.Path.{_≡_}
 use mathlib.Core.List.{List}
 use Prim.Native.Nat.{ℕ}
-use lib.ListN.{length, take}
-use lib.Seq.{take-all}
-use native.Mathlib.Omega.{arith}
+use lib.ListN.{length}
 use Rattle.filters.specs.declared.halving.ReduceFilter.{ReduceFilter}
 use Rattle.filters.specs.declared.half_pel.HalfPel.{HalfPel}
 use Rattle.filters.specs.Row.{Six, meansOf, sixes}
@@ -15,9 +13,6 @@ use Rattle.filters.proofs.Tables.{tab-length}
 pub means-length : (n : ℕ) (a b : List ℕ) → length (meansOf n a b) ≡ n
 unfolding meansOf
 means-length n a b = tab-length _ n
-
-pub means-taken : (m n : ℕ) (l a b : List ℕ) → m ≡ n → l ≡ meansOf n a b → take m l ≡ meansOf m a b
-means-taken m n l a b e made = rw (made, e) (take-all n (meansOf n a b) (omega (arith, means-length n a b)))
 
 pub sixes-length : (k : Six) (n : ℕ) (m2 m1 c0 p1 p2 p3 : List ℕ) → length (sixes k n m2 m1 c0 p1 p2 p3) ≡ n
 unfolding sixes

@@ -6,7 +6,7 @@ use mathlib.Core.Logic.{⊎-elim}
 use Prim.Native.Nat.{ℕ, _+_, _*_, _-_, _≤_, _<_}
 use native.Mathlib.Omega.{arith}
 use lib.Dec.{leb, eqb}
-use lib.ListN.{length, getD, set, drop, length-set, length-drop}
+use lib.ListN.{length, getD, set, drop, length-set}
 use lib.Seq.{getD-set-same, getD-set-other, getD-drop}
 use borrow.Author.Tests.{ne-eqb, le-leb, lt-leb, leb-false}
 use Rattle.filters.specs.declared.halving.ReduceFilter.{ReduceFilter}
@@ -15,7 +15,7 @@ use Rattle.filters.specs.Row.{meanOf, sixAt, sixes, around}
 use Rattle.filters.specs.Halve.{lastIsMean, isEdge, weigh, headed, horizontalAt, horizontalRow}
 use Rattle.filters.specs.Inner.{Reach, Apart, weighedApart, withLast, reducedApart}
 use Rattle.filters.proofs.Tests.{below-or, and-no, or-yes}
-use Rattle.filters.proofs.Tables.{is-tab, tab-at}
+use Rattle.filters.proofs.Tables.{is-tab, tab-at, from-place}
 use Rattle.filters.proofs.Lengths.{sixes-length}
 
 headed-first : (v : List ℕ) → 0 < length v → meanOf (getD v 0 0) (getD v 1 0) ≡ getD (headed v) 0 0
@@ -85,9 +85,6 @@ apart-headed {n} {m} {v} {s} h some is =
     }
 
 -- ---- the weights over the parts
-from-place : {n : ℕ} (t : ℕ) (s : List ℕ) {x : List ℕ} → t + n ≤ length s → x ≡ drop t s → n ≤ length x
-from-place t s fits e = rw (e, length-drop t s) (omega arith)
-
 pub parts-fit : {n : ℕ} {s m1 c0 p1 p2 p3 : List ℕ} → 2 * n + 2 ≤ length s → m1 ≡ drop n s → c0 ≡ drop 1 s → p1 ≡ drop (n + 1) s → p2 ≡ drop 2 s → p3 ≡ drop (n + 2) s → Reach n s m1 c0 p1 p2 p3
 parts-fit {n} {s} fits e1 e2 e3 e4 e5 =
     record {

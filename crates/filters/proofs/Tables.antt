@@ -1,4 +1,4 @@
--- Rows made by a rule: their length, what stands at a place, and when a list is one. Assumes nothing.
+-- Rows made by a rule: their length, what stands at a place, and when a list is one; parts that were lent and came back. Assumes nothing.
 use mathlib.Core.Path.{_≡_, refl, sym, ap, _∙_}
 use mathlib.Core.List.{List, [], _∷_, _++_}
 use mathlib.Core.Logic.{_⊎_, ⊎-elim}
@@ -6,8 +6,9 @@ use Prim.Native.Nat.{ℕ, zero, suc, _+_, _-_, _≤_, _<_}
 use native.Mathlib.Nat.{le-of-suc-le-suc, eq-or-lt-of-le}
 use native.Mathlib.Omega.{arith}
 use lib.ListN.{length, getD, take, drop, replicate, length-append, length-drop, length-replicate, getD-replicate, List·getD-append}
-use lib.Seq.{ext-getD, getD-append-seam, getD-append-add, getD-take, getD-drop, length-take-le}
+use lib.Seq.{ext-getD, getD-append-seam, getD-append-add, getD-take, getD-drop, length-take-le, take-all}
 use Rattle.filters.specs.Row.{Six, tab, meanOf, meansOf, sixAt, sixes}
+use Rattle.filters.specs.Inner.{laid}
 use Rattle.filters.proofs.Tests.{below-or}
 
 pub tab-length : (f : ℕ → ℕ) (n : ℕ) → length (tab f n) ≡ n
@@ -36,23 +37,37 @@ pub sixes-ext : (k l : Six) (n : ℕ) (m2 m1 c0 p1 p2 p3 : List ℕ) → ((a b c
 unfolding sixes
 sixes-ext k l n m2 m1 c0 p1 p2 p3 same = tab-ext (sixAt k m2 m1 c0 p1 p2 p3) (sixAt l m2 m1 c0 p1 p2 p3) n (λ i h. same (getD m2 i 0) (getD m1 i 0) (getD c0 i 0) (getD p1 i 0) (getD p2 i 0) (getD p3 i 0))
 
-pub means-from : (m at : ℕ) (a b x y : List ℕ) → x ≡ drop at a → y ≡ drop at b → meansOf m x y ≡ tab (λ j. meanOf (getD a (at + j) 0) (getD b (at + j) 0)) m
-unfolding meansOf
-means-from m at a b x y ex ey = rw (ex, ey) (tab-ext (λ j. meanOf (getD (drop at a) j 0) (getD (drop at b) j 0)) (λ j. meanOf (getD a (at + j) 0) (getD b (at + j) 0)) m (λ j lt. rw (getD-drop at a j 0, getD-drop at b j 0) refl))
-
 pub take-tab : (n : ℕ) (l : List ℕ) → n ≤ length l → take n l ≡ tab (λ i. getD l i 0) n
 take-tab n l le = is-tab (take n l) (λ i. getD l i 0) n (length-take-le n l le) (λ i h. getD-take n l i 0 h)
 
+-- rows from a place on
+pub take-from : (w at : ℕ) (l : List ℕ) → at + w ≤ length l → take w (drop at l) ≡ tab (λ j. getD l (at + j) 0) w
+take-from w at l fits = take-tab w (drop at l) (omega (arith, length-drop at l)) ∙ tab-ext (λ j. getD (drop at l) j 0) (λ j. getD l (at + j) 0) w (λ j lt. getD-drop at l j 0)
+
+pub means-from : (w at : ℕ) (a b : List ℕ) → meansOf w (drop at a) (drop at b) ≡ tab (λ j. meanOf (getD a (at + j) 0) (getD b (at + j) 0)) w
+unfolding meansOf
+means-from w at a b = tab-ext (λ j. meanOf (getD (drop at a) j 0) (getD (drop at b) j 0)) (λ j. meanOf (getD a (at + j) 0) (getD b (at + j) 0)) w (λ j lt. rw (getD-drop at a j 0, getD-drop at b j 0) refl)
+
 pub zeros-tab : (n : ℕ) → replicate n 0 ≡ tab (λ i. 0) n
 zeros-tab n = is-tab (replicate n 0) (λ i. 0) n (length-replicate n 0) (λ i h. getD-replicate n i 0 0 h)
+
+pub from-place : {n : ℕ} (t : ℕ) (s : List ℕ) {x : List ℕ} → t + n ≤ length s → x ≡ drop t s → n ≤ length x
+from-place t s fits e = rw (e, length-drop t s) (omega arith)
 
 pub part-length : (l : List ℕ) (a e : ℕ) → a ≤ e → e ≤ length l → length (take (e - a) (drop a l)) ≡ e - a
 part-length l a e ordered fits = length-take-le (e - a) (drop a l) (omega (arith, length-drop a l))
 
 -- ---- a part that was lent and came back
+-- a block laid whole into the part that was lent for it
+pub laid-whole : (o l k : List ℕ) (at w : ℕ) → at + w ≤ length o → length l ≡ w → k ≡ take (length (take (at + w - at) (drop at o))) l → laid o at (at + w - at) k ≡ laid o at w l
+laid-whole o l k at w fits long made =
+    let width : at + w - at ≡ w = omega arith in
+    let whole : k ≡ l = made ∙ take-all (length (take (at + w - at) (drop at o))) l (omega (arith, part-length o at (at + w) (omega arith) fits)) in
+    rw (whole, width) refl
+
 module _ (o k : List ℕ) (a e : ℕ) (ordered : a ≤ e) (fits : e ≤ length o) (whole : length k ≡ e - a) where
   abbrev back : List ℕ
-  back = take a o ++ (k ++ drop (e - a) (drop a o))
+  back = laid o a (e - a) k
 
   front : length (take a o) ≡ a
   front = length-take-le a o (omega arith)

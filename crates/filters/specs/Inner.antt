@@ -1,11 +1,11 @@
 -- Inner: what the code goes by on its way, and document 01 doesn't have. Each is tied to the document's own definition by a law of proofs/.
--- First what rows are asked for; then the kernels over natural numbers, and a row by the edges' rule alone; last a row of pairs taken apart.
+-- First what rows are asked for, and a block laid into a row; then the kernels over natural numbers, and a row by the edges' rule alone; last a row of pairs taken apart.
 use mathlib.Core.Path.{_≡_}
 use Prim.Native.Nat.{ℕ, _+_, _*_, _-_, _/_, _≤_, _<_, min}
 use mathlib.Core.Bool.{cond}
-use mathlib.Core.List.{List}
+use mathlib.Core.List.{List, _++_}
 use lib.Dec.{leb}
-use lib.ListN.{length, getD, set, drop}
+use lib.ListN.{length, getD, set, take, drop}
 use Rattle.filters.specs.declared.half_pel.HalfPel.{HalfPel}
 use Rattle.filters.specs.declared.half_pel.HalfPel.the-variants.{CatmullRom, Wiener}
 use Rattle.filters.specs.declared.halving.ReduceFilter.{ReduceFilter}
@@ -29,6 +29,10 @@ pub record Reach (n : ℕ) (m2 m1 c0 p1 p2 p3 : List ℕ) : Type 0 where
   pub in-p1 : n ≤ length p1
   pub in-p2 : n ≤ length p2
   pub in-p3 : n ≤ length p3
+
+-- the row o with the w bytes of k laid over it from place i on
+abbrev pub laid : List ℕ → ℕ → ℕ → List ℕ → List ℕ
+laid o i w k = take i o ++ (k ++ drop w (drop i o))
 
 -- a difference below 0 counts as 0, which is what holding makes of it (law `half-pel-natural`: it is `halfPel`)
 abbrev pub naturalPel : HalfPel → Six
