@@ -434,34 +434,55 @@ pub fn pick(at: u64) {
     write(&mut std::io::stdout().lock(), &c);
 }
 
-/// The Rust with its fused path on and off, over the cases on standard input: how many builds leave another frame, of full records and others, in frames of zeros and others.
-/// Fails where one of a full record in a frame of zeros does, and where none of another sort does: then the cases show nothing.
+/// What `paths` tells apart: where both paths have to leave one frame, and where builds can differ.
+#[derive(Default)]
+struct Sort {
+    builds: u64,
+    /// With a level that the fused path makes.
+    fused: u64,
+    others: u64,
+}
+
+/// Whether a level is fused; in a frame that is long enough its width decides.
+fn fuses(r: &SuperOpts, w: &[u32]) -> bool {
+    let (levels, _) = sb::layout(r, w[13] as usize, (w[10], w[11]));
+    r.scale_down == 4 && levels.iter().enumerate().skip(1).any(|(l, &(_, width, _))| (r.full || l > 1) && width >= 8 && width % 4 == 0)
+}
+
+/// The Rust with its fused path on and off, over the cases on standard input: how many builds leave another frame, of each sort.
+/// Fails where one does though it must not (another down; a full record in a frame of zeros), and where none does of a sort that can: then the cases show nothing.
 pub fn paths() {
+    const SORTS: [(&str, bool); 5] = [
+        ("down isn't 4", false),
+        ("down 4, full, in a frame of zeros", false),
+        ("down 4, full, in a frame of other bytes", true),
+        ("down 4, not full, in a frame of zeros", true),
+        ("down 4, not full, in a frame of other bytes", true),
+    ];
     let mut from = BufReader::new(std::io::stdin().lock());
-    let mut counts = [[(0u64, 0u64); 2]; 2];
+    let mut sorts: [Sort; 5] = Default::default();
     let mut fails = false;
     let mut at = 0;
     while let Some(mut c) = read(&mut from) {
-        let (part, zeros) = (c.words[4] == 0, c.lent[0].iter().all(|&b| b == 0));
-        if judged(&c.words).is_ok() {
+        if let Ok(r) = judged(&c.words) {
+            let zeros = c.lent[0].iter().all(|&b| b == 0);
+            let k = if r.scale_down != 4 { 0 } else { 1 + usize::from(!zeros) + 2 * usize::from(!r.full) };
             let [on, off] = [0, 1].map(|path| { c.words[GENERIC] = path; built(&c).1 });
-            let (builds, others) = &mut counts[usize::from(part)][usize::from(!zeros)];
-            *builds += 1;
-            *others += u64::from(on != off);
-            if on != off && !part && zeros {
-                println!("case {at} is of a full record in a frame of zeros, and leaves another frame: {:?}", c.words);
+            sorts[k].builds += 1;
+            sorts[k].fused += u64::from(fuses(&r, &c.words));
+            sorts[k].others += u64::from(on != off);
+            if on != off && !SORTS[k].1 {
+                println!("case {at} leaves another frame: {}, {:?}", SORTS[k].0, c.words);
                 fails = true;
             }
         }
         at += 1;
     }
-    for (part, record) in counts.iter().zip(["full", "not full"]) {
-        for ((builds, others), frame) in part.iter().zip(["zeros", "other bytes"]) {
-            println!("{record}, in a frame of {frame}: {others} of {builds} builds leave another frame");
-            if *others == 0 && (record, frame) != ("full", "zeros") {
-                println!("none of these does: the cases don't show that such builds can differ");
-                fails = true;
-            }
+    for (sort, (name, differ)) in sorts.iter().zip(SORTS) {
+        println!("{name}: {} of {} builds leave another frame; {} have a level that the fused path makes", sort.others, sort.builds, sort.fused);
+        if differ && sort.others == 0 {
+            println!("none of these does: the cases don't show that such builds can differ");
+            fails = true;
         }
     }
     if fails { std::process::exit(1); }

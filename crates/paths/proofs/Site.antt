@@ -115,8 +115,7 @@ other-alike q src sp F other =
     let first = cond (q .opts .full) (copied q src sp c) c in
     ap (λ (x : List ℕ). take (length F) (cond (eqb (levelsOf q) 0) c (refined q x))) (halved-other q src sp (length F) other (chosen (q .opts .«scale_down»)) first)
 
--- ---- about the calls
--- of path, frame, spill, scratch, layout, source and source pitch
+-- ---- about the calls: frame, spill, scratch, layout, source and source pitch; before them, of `build_plane_by`, whether the path is on
 pub build-plane-by-contract : (κs : Lfts 4) → Contract (build-plane-by-reads.Post κs) (λ x t e. LeavesBy (x .0) (x .1 .1 .1 .1 .0) (now (x .1 .1 .1 .1 .1 .0)) (x .1 .1 .1 .1 .1 .1 .0) (now (x .1 .0)) (now (x .1 .1 .0)) (now (x .1 .1 .1 .0)) (tested t) (now (e .1 .0)) (now (e .1 .1 .0)) (now (e .1 .1 .1 .0)))
 build-plane-by-contract κs x t e = both-ways
 

@@ -23,7 +23,7 @@ fusedHalving q l c = fused (offsetAt q (l - 1)) (q .pitch) (regionAt q l) c
 abbrev pub genericHalving : Layout → ℕ → List ℕ → List ℕ
 genericHalving q l c = fromStored Cubic (offsetAt q (l - 1)) (q .pitch) (regionAt q l) c
 
--- "in a frame that building accepts, if `cubic_fits` holds and the source level is already stored": level l of q, in a frame of len bytes
+-- "in a frame that building accepts, if `cubic_fits` holds and the source level is already stored": level l of q, in a frame of len bytes. (Down may be any: the two ways are functions of frame and level.)
 pub record BothWays (q : Layout) (len l : ℕ) : Type 0 where
   -- a source plane of so many bytes, its pitch, and so many bytes of spill and scratch, with which a build isn't refused
   pub source : ℕ
