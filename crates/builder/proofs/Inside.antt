@@ -11,12 +11,12 @@ use Rattle.layouts.specs.Storing.{put}
 use Rattle.builder.specs.declared.refining.Interp.{Interp}
 use Rattle.builder.specs.Canvas.{fetch, copyRun}
 use Rattle.builder.specs.Halving.{fromStored, fused}
-use Rattle.builder.specs.Refining.{pairRun, kernelPlanes}
-use Rattle.builder.specs.Room.{Within, Planes, Halves}
+use Rattle.builder.specs.Refining.{pairRun, meanPlanes, kernelPlanes}
+use Rattle.builder.specs.Room.{Within, Planes, Halves, Tight}
 use Rattle.builder.proofs.Runs.{fetch-left, put-length, put-left}
 use Rattle.builder.proofs.Related.{Same, same-bytes, same-kernel, rel-same, same-row}
 use Rattle.builder.proofs.Stages.{Keeps, Notion, copy-kept, pair-run-kept}
-use Rattle.builder.proofs.Placed.{Allows, stored-placed, fused-placed, kernel-placed}
+use Rattle.builder.proofs.Placed.{Allows, stored-placed, fused-placed, kernel-placed, tight-placed}
 
 -- what the stage makes of len bytes, it makes of them with S after them too
 pub record Inside (len : ℕ) (stage : List ℕ → List ℕ) : Type 0 where
@@ -65,3 +65,6 @@ module _ {len scratch base p : ℕ} {t : Region} (w : Within len scratch base p 
 
 pub kernel-inside : (k : HalfPel) (len scratch : ℕ) (i : Interp) (a b d : ℕ) → Halves a b d → Planes (d + 1) len scratch i → Inside len (kernelPlanes k i a b d)
 kernel-inside k len scratch i a b d h P = inside-by (λ S. kernel-placed same-bytes (beside-allows len S) k (same-kernel k) a b d h P)
+
+pub tight-inside : (len scratch : ℕ) (i : Interp) (a b d : ℕ) → Tight i → Halves a b d → Planes (d + 1) len scratch i → Inside len (meanPlanes i a b d)
+tight-inside len scratch i a b d T h P = inside-by (λ S. tight-placed same-bytes (beside-allows len S) T a b d h P)

@@ -6,6 +6,8 @@
 --     Spreads    level 1 from the source plane: its rows in a frame and its spill
 --     Related    rows byte by byte in a relation of bytes
 --     Stages     one walk through the stages, for any relation of two canvases
+--     Swaps      stores that can be made in either order, and loops that can be parted
+--     AtOnce     the planes at half places in one pass
 --     Placed     stages that have room in a frame and its spill
 --     Inside     stages that stay inside the frame don't see what follows it
 -- The folders hold a proof for each function.
@@ -16,5 +18,7 @@ pub mod Refined
 pub mod Spreads
 pub mod Related
 pub mod Stages
+pub mod Swaps
+pub mod AtOnce
 pub mod Placed
 pub mod Inside

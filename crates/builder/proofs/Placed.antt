@@ -17,11 +17,11 @@ use Rattle.layouts.specs.declared.layout.Region.{Region}
 use Rattle.layouts.proofs.Loops.{row-in, row-fits}
 use Rattle.builder.specs.declared.refining.Interp.{Interp}
 use Rattle.builder.specs.Halving.{fromStored, fused, fromSource}
-use Rattle.builder.specs.Refining.{planeAt, kernelPlanes, halfPlanes, pairs, quarter, refine}
-use Rattle.builder.specs.Room.{Within, Spread, PairPlane, OnePlane, Planes, Halves}
+use Rattle.builder.specs.Refining.{meanPlanes, chunked, planeAt, kernelPlanes, halfPlanes, pairs, quarter, refine}
+use Rattle.builder.specs.Room.{Within, Spread, PairPlane, OnePlane, Planes, Halves, Tight}
 use Rattle.builder.proofs.Lines.{line-reads, whole-or}
 use Rattle.builder.proofs.Halves.{row-within, source-within, halves-within}
-use Rattle.builder.proofs.Refined.{pair-fits, first-row-fits, horizontal-fits, vertical-fits, halves-two, halves-four, pel-four, planes-at, planes-fewer, quarter-fits, table-row}
+use Rattle.builder.proofs.Refined.{plane-fits, pair-fits, first-row-fits, horizontal-fits, vertical-fits, halves-two, halves-four, pel-four, planes-at, planes-fewer, quarter-fits, table-row}
 use Rattle.builder.proofs.Spreads.{spread-at, closed-row}
 use Rattle.builder.proofs.Related.{Bytes, Kernels, Ups, Rel}
 use Rattle.builder.proofs.Stages.{Respects, Keeps, Notion, OneNeed, PairNeed, UnderNeed, folds, stored-kept, fused-kept, source-kept, pair-kept, means-kept, kernel-kept, refine-kept}
@@ -55,9 +55,28 @@ module _ {E : ℕ → ℕ → Type 0} (B : Bytes E) {N : Notion E} {len : ℕ} (
   pub kernel-placed : {scratch : ℕ} {i : Interp} (k : HalfPel) → Kernels E k → (a b d : ℕ) → Halves a b d → Planes (d + 1) len scratch i → Keeps (N .R) (kernelPlanes k i a b d)
   kernel-placed {i = i} k K a b d h P =
       kernel-kept B N k K i a b d
-      (one-placed (horizontal-fits P a (planeAt i a) 0 0 (omega (arith, h .across)) refl (omega arith) (omega arith)))
-      (one-placed (vertical-fits P b (planeAt i b) (omega (arith, h .below)) (omega (arith, h .some)) refl))
+      (one-placed (horizontal-fits P a (planeAt i a) 0 0 (omega (arith, h .across, h .below)) refl (omega arith) (omega arith)))
+      (one-placed (vertical-fits P b (planeAt i b) (omega (arith, h .below)) (omega (arith, h .first, h .across, h .below)) refl))
       (one-placed (horizontal-fits P d (planeAt i d) b (planeAt i b) (omega arith) refl (omega (arith, h .below)) refl))
+
+  -- planes of means, whose pairs have room
+  means-placed : {scratch : ℕ} {i : Interp} (a b d : ℕ) → Halves a b d → Planes (d + 1) len scratch i → ((j x : ℕ) → j < d + 1 → x ≤ i .pitch + 1 → PairNeed N i (planeAt i j) 0 x) → Keeps (N .R) (meanPlanes i a b d)
+  means-placed {i = i} a b d h P mean =
+      let under : (j x s : ℕ) → j < d + 1 → x ≤ i .pitch + 1 → s ≤ 1 → UnderNeed N i (planeAt i j) x s = λ j x s lt near few. let f = first-row-fits P j (planeAt i j) s lt refl few in record { pair = mean j x lt near; from = A .sees _ _ (f .0); to = A .takes _ _ (f .1) } in
+      means-kept B N i a b d (mean a 1 (omega (arith, h .across, h .below)) (omega arith)) (under b (i .pitch) 0 (omega (arith, h .below)) (omega arith) (omega arith)) (under d (i .pitch + 1) 1 (omega arith) (omega arith) (omega arith))
+
+  -- no row reaches past its plane
+  pub tight-placed : {scratch : ℕ} {i : Interp} → Tight i → (a b d : ℕ) → Halves a b d → Planes (d + 1) len scratch i → Keeps (N .R) (meanPlanes i a b d)
+  tight-placed {i = i} T a b d h P =
+      means-placed a b d h P
+      (λ j x lt near.
+      let row : (y : ℕ) → y < i .height → y * i .pitch + chunked (i .width) ≤ i .height * i .pitch = λ y l. omega (arith, row-in y (i .height) (i .pitch) l, T .rows) in
+      let second = plane-fits P 1 (planeAt i 1) (omega (arith, h .below)) refl in
+      record {
+        target = λ y l. A .takes _ _ (omega (arith, row y l, plane-fits P j (planeAt i j) lt refl));
+        left = λ y l. A .sees _ _ (omega (arith, row y l, second));
+        right = λ y l. A .sees _ _ (omega (arith, row y l, second, T .near));
+      })
 
 -- ---- into the spill
 module _ {E : ℕ → ℕ → Type 0} (B : Bytes E) {N : Notion E} (len spill : ℕ) (A : Allows N (len + spill)) where
@@ -82,9 +101,7 @@ module _ {E : ℕ → ℕ → Type 0} (B : Bytes E) {N : Notion E} (len spill : 
     half-placed : (u : Upscale) → Ups E u → (a b d : ℕ) → Halves a b d → Planes (d + 1) len scratch i → Keeps (N .R) (halfPlanes u i a b d)
     unfolding halfPlanes
     half-placed Means z a b d h P =
-        let mean : (j x : ℕ) → j < d + 1 → x ≤ i .pitch + 1 → PairNeed N i (planeAt i j) 0 x = λ j x lt near. pair-placed (pair-fits P j (planeAt i j) x spill lt (omega (arith, h .some)) refl near beyond) in
-        let under : (j x s : ℕ) → j < d + 1 → x ≤ i .pitch + 1 → s ≤ 1 → UnderNeed N i (planeAt i j) x s = λ j x s lt near few. let f = first-row-fits P j (planeAt i j) s lt refl few in record { pair = mean j x lt near; from = A .sees _ _ (omega arith); to = A .takes _ _ (omega arith) } in
-        means-kept B N i a b d (mean a 1 (omega (arith, h .across)) (omega arith)) (under b (i .pitch) 0 (omega (arith, h .below)) (omega arith) (omega arith)) (under d (i .pitch + 1) 1 (omega arith) (omega arith) (omega arith))
+        means-placed B (allows-less (omega arith) A) a b d h P (λ j x lt near. pair-placed (pair-fits P j (planeAt i j) x spill lt (omega (arith, h .below)) refl near beyond))
     half-placed (Kernel k) K a b d h P = kernel-placed B (allows-less (omega arith) A) k K a b d h P
 
     pub refine-placed : (u : Upscale) → Ups E u → (pel : ℕ) → (pel ≡ 2) ⊎ (pel ≡ 4) → Planes (pel * pel) len scratch i → Keeps (N .R) (refine i pel u)

@@ -179,10 +179,10 @@ planes-fewer {j} {k} {len} {scratch} {i} P few =
 
 -- at pel 2 or 4
 pub halves-two : Halves 1 2 3
-halves-two = record { across = omega arith; down = omega arith; below = omega arith; some = omega arith; most = omega arith }
+halves-two = record { first = omega arith; across = omega arith; below = omega arith; most = omega arith }
 
 pub halves-four : Halves 2 8 10
-halves-four = record { across = omega arith; down = omega arith; below = omega arith; some = omega arith; most = omega arith }
+halves-four = record { first = omega arith; across = omega arith; below = omega arith; most = omega arith }
 
 pub pel-four : {pel : ℕ} → (pel ≡ 2) ⊎ (pel ≡ 4) → (pel ≡ 2 → ⊥) → pel ≡ 4
 pel-four known not-two = ⊎-elim (λ e. absurd (not-two e)) (λ e. e) known

@@ -1,9 +1,11 @@
 -- Inner: what the inner calls need of the slices that they are lent. Document 01 has none of it; `layoutNo`, `buildNo` and the laws of proofs/ give it to each.
-use Prim.Native.Nat.{ℕ, _+_, _*_, _≤_}
+use mathlib.Core.Path.{_≡_}
+use Prim.Native.Nat.{ℕ, _+_, _*_, _/_, _≤_, _<_}
 use Rattle.settings.specs.Limits.{mostSide, mostPitch}
 use Rattle.layouts.specs.declared.layout.Region.{Region}
 use Rattle.builder.specs.declared.refining.Interp.{Interp}
 use Rattle.builder.specs.declared.refining.Pair.{Pair}
+use Rattle.builder.specs.Refining.{chunked}
 
 -- a source of len bytes has, from base on, 2 * h rows of n bytes, sp apart
 pub record Source (len base sp n h : ℕ) : Type 0 where
@@ -69,13 +71,25 @@ pub record FirstRow (k r s : ℕ) (i : Interp) : Type 0 where
   pub near : r ≤ i .pitch + 1
   pub first : s ≤ 1
 
--- the numbers of the planes at half places, of which the diagonal one is the last
+-- the numbers of the planes at half places, in their order
 pub record Halves (horizontal vertical diagonal : ℕ) : Type 0 where
-  pub across : horizontal ≤ diagonal
-  pub down : 1 ≤ vertical
-  pub below : vertical ≤ diagonal
-  pub some : 2 ≤ diagonal
+  pub first : 1 ≤ horizontal
+  pub across : horizontal < vertical
+  pub below : vertical < diagonal
   pub most : diagonal ≤ 15
+
+-- planes at half places that blocks of 64 bytes make at once: the chunks of rows lie end to end, a plane is whole blocks, and what a block reads, up to a row and a byte further on, lies before the block of the next plane
+pub record Tight (i : Interp) : Type 0 where
+  pub rows : chunked (i .width) ≡ i .pitch
+  pub blocks : i .height * i .pitch / 64 * 64 ≡ i .height * i .pitch
+  pub near : i .pitch + 64 < i .height * i .pitch
+
+-- planes at a, b and d, after plane 0 and one after the other, in a frame of len bytes
+pub record Three (len : ℕ) (i : Interp) (a b d : ℕ) : Type 0 where
+  pub first : i .height * i .pitch ≤ a
+  pub second : a + i .height * i .pitch ≤ b
+  pub third : b + i .height * i .pitch ≤ d
+  pub inside : d + i .height * i .pitch ≤ len
 
 -- a pair of 16 planes: one follows the left, so that it can be read further on
 pub record Quarter (pair : Pair) : Type 0 where

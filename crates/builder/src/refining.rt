@@ -1,16 +1,17 @@
 // The planes of level 0 between its places: open-svpflow's `refine` and `Interp`.
-// First the means of two rows; then a plane from one or two others; then the planes at half places; then the table of the pairs between those; last the whole.
+// First the means of two rows; then a block of the three planes at half places; then a plane from one or two others; then the planes at half places, at once or in turn; then the table of the pairs between those; last the whole.
 ghost use mathlib.Core.Path.{_≡_};
 ghost use mathlib.Core.List.{_++_};
 ghost use mathlib.Core.Logic.{_⊎_};
 ghost use Prim.Native.Nat.{_+_, _*_, _-_, _≤_, _<_};
 ghost use lib.ListN.{length};
 ghost use Rattle.settings.specs.Limits.{mostSide, mostPitch};
+ghost use Rattle.filters.specs.Row.{meansOf};
 ghost use Rattle.filters.specs.Refine.{halfHorizontal};
 ghost use Rattle.layouts.specs.Storing.{put};
-ghost use Rattle.builder.specs.Canvas.{fetch, copyRun};
+ghost use Rattle.builder.specs.Canvas.{fetch, copyRun, _▷_};
 ghost use Rattle.builder.specs.Refining.{chunked, pairRun, pairPlane, horizontalPlane, verticalRun, verticalPlane, planeAt, meanPlanes, kernelPlanes, halfPlanes, pairs, quarter, foldPairs, refine};
-ghost use Rattle.builder.specs.Room.{PairRow, PairPlane, OnePlane, Planes, FirstRow, Halves, Quarter};
+ghost use Rattle.builder.specs.Room.{PairRow, PairPlane, OnePlane, Planes, FirstRow, Halves, Tight, Three, Quarter};
 use crate::canvas::fetch;
 use crate::canvas::put;
 use crate::canvas::span;
@@ -19,6 +20,7 @@ use filters::half_pel::HalfPel;
 use filters::half_pel::Upscale;
 use filters::rows::copy_row;
 use filters::rows::mean;
+use filters::rows::mean_row;
 
 // Planes of `height` rows of `width` bytes, `pitch` apart.
 pub struct Interp {
@@ -96,6 +98,31 @@ fn pair_row(
         }
     }
     pair_apart(frame, spill, scratch, t, l, r, n);
+}
+
+const BLOCK: usize = 64;
+
+// The means of two parts of a block's length, in an array of their own: all are made before the first is stored.
+fn mean_part(frame: &[u8], l: usize, r: usize) -> [u8; BLOCK]
+    requires { ⌜ (l + 64 ≤ length (now frame)) × (r + 64 ≤ length (now frame)) ⌝ }
+    ensures { λ q. ⌜ q ≡ meansOf 64 (fetch (now (frame .entry)) l 64) (fetch (now (frame .entry)) r 64) ⌝ }
+{
+    let mut part = [0u8; BLOCK];
+    mean_row(&mut part, span(frame, l, BLOCK), span(frame, r, BLOCK));
+    part
+}
+
+// A block of the planes at a, b and d, from plane 0, whose rows are p apart. All that it reads lies before the first byte that it stores: so the three can be made first, and the compiler reads the block of plane 0 itself once for them.
+fn mean_block(frame: &mut [u8], at: usize, p: usize, a: usize, b: usize, d: usize)
+    requires { ⌜ (p + 65 ≤ a) × (a ≤ b) × (b ≤ d) × (d + at + 64 ≤ length (now frame)) ⌝ }
+    ensures { λ q. ⌜ now (frame .exit) ≡ now (frame .entry) ▷ pairRun (a + at) at (1 + at) 64 ▷ pairRun (b + at) at (p + at) 64 ▷ pairRun (d + at) at (p + 1 + at) 64 ⌝ }
+{
+    let across = mean_part(frame, at, 1 + at);
+    let down = mean_part(frame, at, p + at);
+    let both = mean_part(frame, at, p + 1 + at);
+    put(frame, a + at, &across);
+    put(frame, b + at, &down);
+    put(frame, d + at, &both);
 }
 
 const SSE_CHUNK: usize = 16;
@@ -250,7 +277,37 @@ impl Interp {
         self.copy_first_row(frame, scratch, t, s);
     }
 
-    fn mean_planes(
+    // The planes at a, b and d in one pass, which is open-svpflow's `refine_bilinear2`.
+    fn mean_blocks(self, frame: &mut [u8], a: usize, b: usize, d: usize)
+        requires { ⌜ (Tight self) × (Three (length (now frame)) self a b d) ⌝ }
+        ensures { λ r. ⌜ now (frame .exit) ≡ now (frame .entry) ▷ pairPlane self a 0 1 ▷ pairPlane self b 0 (self .pitch) ▷ pairPlane self d 0 (self .pitch + 1) ⌝ }
+    {
+        let n = self.height * self.pitch / BLOCK;
+        for k in 0..n {
+            mean_block(frame, k * BLOCK, self.pitch, a, b, d);
+        }
+    }
+
+    fn mean_at_once(
+        self,
+        frame: &mut [u8],
+        scratch: &mut [u8],
+        horizontal: usize,
+        vertical: usize,
+        diagonal: usize,
+    )
+        requires { ⌜ (Tight self) × (Halves horizontal vertical diagonal) × (Planes (diagonal + 1) (length (now frame)) (length (now scratch)) self) ⌝ }
+        ensures { λ r. ⌜ now (frame .exit) ≡ meanPlanes self horizontal vertical diagonal (now (frame .entry)) ⌝ }
+    {
+        let across = self.plane(horizontal);
+        let below = self.plane(vertical);
+        let both = self.plane(diagonal);
+        self.mean_blocks(frame, across, below, both);
+        self.copy_first_row(frame, scratch, below, 0);
+        self.copy_first_row(frame, scratch, both, 1);
+    }
+
+    fn mean_in_turn(
         self,
         frame: &mut [u8],
         spill: &mut [u8],
@@ -266,6 +323,31 @@ impl Interp {
         self.pair(frame, spill, scratch, target, 0, 1);
         self.pair_under_row(frame, spill, scratch, vertical, self.pitch, 0);
         self.pair_under_row(frame, spill, scratch, diagonal, self.pitch + 1, 1);
+    }
+
+    // At once where the chunks of rows lie end to end, a plane is whole blocks, and what a block reads, up to a row and a byte further on, lies before the block of the next plane; else in turn.
+    fn mean_planes(
+        self,
+        frame: &mut [u8],
+        spill: &mut [u8],
+        scratch: &mut [u8],
+        horizontal: usize,
+        vertical: usize,
+        diagonal: usize,
+    )
+        requires { ⌜ (Halves horizontal vertical diagonal) × (Planes (diagonal + 1) (length (now frame)) (length (now scratch)) self) × (16 ≤ length (now spill)) ⌝ }
+        ensures { λ r. ⌜ now (frame .exit) ++ now (spill .exit) ≡ meanPlanes self horizontal vertical diagonal (now (frame .entry) ++ now (spill .entry)) ⌝ }
+    {
+        let size = self.plane(1);
+        if chunked(self.width) == self.pitch {
+            if size / BLOCK * BLOCK == size {
+                if self.pitch + BLOCK < size {
+                    self.mean_at_once(frame, scratch, horizontal, vertical, diagonal);
+                    return;
+                }
+            }
+        }
+        self.mean_in_turn(frame, spill, scratch, horizontal, vertical, diagonal);
     }
 
     fn kernel_planes(

@@ -41,6 +41,7 @@ use Rattle.builder.proofs.Refined.{cut, every, every-at}
 use Rattle.builder.proofs.Related.{Any, any-bytes, any-kernel, any-ups, any-row}
 use Rattle.builder.proofs.Stages.{Keeps, after, turns, folds, Notion, store, OneNeed, PairNeed, UnderNeed, stored-kept, fused-kept, close-kept, source-kept, pair-kept, under-kept, means-kept, across-kept, below-kept, kernel-kept}
 use Rattle.builder.proofs.Placed.{refine-placed}
+use Rattle.builder.proofs.Swaps.{steps-keep}
 use Rattle.planes.specs.Build.{copied, halveLevel, refined}
 use Rattle.planes.proofs.Prepared.{fused-fits}
 use Rattle.planes.proofs.Parts.{copied-kept, Level, level-kept, refined-kept}
@@ -88,10 +89,6 @@ pub has-after : {i v : ℕ} {stage : List ℕ → List ℕ} {c : List ℕ} → K
 has-after {c = c} keeps has = keeps .each c c has
 
 -- ---- loops
--- every step keeps Q
-pub steps-keep : (Q : List ℕ → Type 0) (step : ℕ → List ℕ → List ℕ) (n : ℕ) (c : List ℕ) → ((y : ℕ) (d : List ℕ) → y < n → Q d → Q (step y d)) → Q c → Q (steps step n c)
-steps-keep Q step n c keep q = turns {R = λ d e. Q d} step step n (λ y lt. record { each = λ d e. keep y d lt }) .each c c q
-
 -- step k makes Q where G holds, which all keep; the later ones keep it
 pub steps-hit : (G Q : List ℕ → Type 0) (step : ℕ → List ℕ → List ℕ) (n k : ℕ) (c : List ℕ) → k < n → G c → ((y : ℕ) (d : List ℕ) → y < n → G d → G (step y d)) → ((d : List ℕ) → G d → Q (step k d)) → ((y : ℕ) (d : List ℕ) → y < n → k < y → Q d → Q (step y d)) → Q (steps step n c)
 unfolding steps

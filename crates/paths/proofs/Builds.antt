@@ -42,9 +42,9 @@ use Rattle.planes.proofs.Parts.{refined-kept}
 use Rattle.planes.proofs.Whole.{copied-placed}
 use Rattle.planes.proofs.Built.{refining-placed}
 use Rattle.demands.proofs.Enough.{length-kept}
-use Rattle.demands.proofs.Kept.{Has, Off, has-after, steps-keep, copied-past, stored-off, refined-past}
+use Rattle.demands.proofs.Kept.{Has, Off, has-after, copied-past, stored-off, refined-past}
 use Rattle.paths.specs.Paths.{fusedHalving, genericHalving, placeAt, ZeroMargins, FusedMarginsZero}
-use Rattle.paths.proofs.Swaps.{steps-alike}
+use Rattle.builder.proofs.Swaps.{steps-keep, steps-alike}
 use Rattle.paths.proofs.Equation.{two-paths}
 use Rattle.paths.proofs.Picture.{off-front, stored-long}
 

@@ -20,8 +20,7 @@ use Rattle.builder.proofs.Runs.{fetch-before, put-length}
 use Rattle.builder.proofs.Lines.{line-length, line-reads}
 use Rattle.builder.proofs.Related.{same-bytes, rel-same, same-row, rel-line}
 use Rattle.builder.proofs.Halves.{fused-run, row-within}
-use Rattle.demands.proofs.Kept.{steps-keep}
-use Rattle.paths.proofs.Swaps.{fetch-after, stores-swap, steps-alike, steps-two}
+use Rattle.builder.proofs.Swaps.{fetch-after, stores-swap, steps-keep, steps-alike, steps-two}
 
 module _ {len scratch base p : ℕ} {t : Region} (w : Within len scratch base p t) where
   abbrev n : ℕ

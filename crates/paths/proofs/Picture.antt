@@ -30,7 +30,8 @@ use Rattle.builder.proofs.halving.reduce_within.Reads as reduce-within-reads
 use Rattle.planes.proofs.Prepared.{cubic-whole, within-here}
 use Rattle.planes.proofs.Whole.{ready}
 use Rattle.demands.proofs.Enough.{length-kept}
-use Rattle.demands.proofs.Kept.{Has, Off, KeepsByte, has-after, steps-keep, steps-hit, stored-off, clear-off}
+use Rattle.builder.proofs.Swaps.{steps-keep}
+use Rattle.demands.proofs.Kept.{Has, Off, KeepsByte, has-after, steps-hit, stored-off, clear-off}
 use Rattle.demands.proofs.Demand.{both-ways}
 use Rattle.paths.specs.Paths.{fusedHalving, genericHalving, BothWays, ForLevel, MarginsZeroed, placeAt, OnePicture}
 use Rattle.paths.proofs.Equation.{zeros-long, margin-keeps, two-paths}

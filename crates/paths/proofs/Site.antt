@@ -32,7 +32,7 @@ use Rattle.planes.proofs.build.build_plane.Reads as build-plane-reads
 use Rattle.planes.proofs.build.build_plane_by.Reads as build-plane-by-reads
 use Rattle.demands.proofs.Demand.{both-ways, build-plane-contract, done-leaves}
 use Rattle.paths.specs.Paths.{placeAt, OneFrame, FusedMarginsZero, SameInput, Source, inTurn, AllAccepted}
-use Rattle.paths.proofs.Swaps.{steps-alike}
+use Rattle.builder.proofs.Swaps.{steps-alike}
 use Rattle.paths.proofs.Builds.{Clean, stored-yes, built-same, built-zeros}
 
 -- ---- a full record

@@ -22,7 +22,7 @@ horizontal-requires c κs =
     let at-plane = c .before .before .before .before in
     let entered = at-plane .before .before .before in
     let a = entered .args in
-    horizontal-fits (entered .pre .1) (a .horizontal) _ 0 0 (omega (arith, entered .pre .0 .across)) (at-plane .plane .ensures) (omega arith) (omega arith)
+    horizontal-fits (entered .pre .1) (a .horizontal) _ 0 0 (omega (arith, entered .pre .0 .across, entered .pre .0 .below)) (at-plane .plane .ensures) (omega arith) (omega arith)
 
 vertical-requires : tie.Need-vertical-requires
 vertical-requires c κs =
@@ -30,7 +30,7 @@ vertical-requires c κs =
     let at-plane2 = at-horizontal .before .before .before .before in
     let entered = at-plane2 .before .before .before .before in
     let a = entered .args in
-    vertical-fits (planes-kept (entered .pre .1) (at-horizontal .horizontal .kept .1 .1 .0) (at-horizontal .horizontal .kept .1 .1 .1 .0)) (a .vertical) _ (omega (arith, entered .pre .0 .below)) (omega (arith, entered .pre .0 .some)) (at-plane2 .plane2 .ensures)
+    vertical-fits (planes-kept (entered .pre .1) (at-horizontal .horizontal .kept .1 .1 .0) (at-horizontal .horizontal .kept .1 .1 .1 .0)) (a .vertical) _ (omega (arith, entered .pre .0 .below)) (omega (arith, entered .pre .0 .first, entered .pre .0 .across, entered .pre .0 .below)) (at-plane2 .plane2 .ensures)
 
 horizontal-requires-2 : tie.Need-horizontal-requires-2
 horizontal-requires-2 c κs =

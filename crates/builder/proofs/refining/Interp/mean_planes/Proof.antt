@@ -1,74 +1,81 @@
 -- `mean_planes` meets its contract. Assumes nothing.
-use mathlib.Core.Path.{_∙_}
-use mathlib.Core.List.{_++_}
-use Prim.Native.Nat.{_+_, _-_}
-use native.Mathlib.Omega.{arith}
-use native.Mathlib.Nat.{le-refl}
+use mathlib.Core.Path.{refl, ap, _∙_}
+use mathlib.Core.List.{List, _++_}
+use Prim.Native.Nat.{ℕ}
+use lib.ListN.{length}
 use denote.Ref.{now}
 use borrow.Author.Needs.{needs}
-use Rattle.builder.proofs.Refined.{planes-kept, planes-fewer, pair-fits, mean-stages}
+use Rattle.builder.proofs.AtOnce.{tight-tested}
+use Rattle.builder.proofs.Inside.{tight-inside}
 use Rattle.builder.proofs.refining.Interp.mean_planes.Statement.{statement}
 use Rattle.builder.proofs.refining.Interp.mean_planes.Tie as tie
 
 plane-requires : tie.Need-plane-requires
 plane-requires c κs = search needs
 
-pair-requires : tie.Need-pair-requires
-pair-requires c κs =
-    let at-plane = c .before .before .before in
-    let entered = at-plane .before .before .before .before in
-    pair-fits (entered .pre .1) (entered .args .horizontal) _ 1 _ (omega (arith, entered .pre .0 .across)) (omega (arith, entered .pre .0 .some)) (at-plane .plane .ensures) (omega arith) (entered .pre .2)
+chunked-requires : tie.Need-chunked-requires
+chunked-requires c κs = search needs
 
-pair-under-row-requires : tie.Need-pair-under-row-requires
-pair-under-row-requires c κs =
-    let at-pair = c .before .before .before .before .before .before .before .before .before in
-    let entered = at-pair .before .before .before .before .before .before .before .before in
-    let h = entered .pre .0 in
-    let k = at-pair .pair .kept .1 in
-    (record { some = h .down; most = omega (arith, h .below, h .most); near = omega arith; first = omega arith }, planes-fewer (planes-kept (entered .pre .1) (k .0) (k .1 .1 .0)) (omega (arith, h .below)), omega (arith, entered .pre .2, k .1 .0))
+mul-if2 : tie.Need-mul-if2
+mul-if2 c = search needs
 
-add-pair-under-row : tie.Need-add-pair-under-row
-add-pair-under-row c = search needs
+add-if3 : tie.Need-add-if3
+add-if3 c = search needs
 
-pair-under-row-requires-2 : tie.Need-pair-under-row-requires-2
-pair-under-row-requires-2 c κs =
-    let at-pair-under-row = c .before .before .before .before .before .before .before .before .before .before in
-    let at-pair = at-pair-under-row .before .before .before .before .before .before .before .before .before .before in
-    let entered = at-pair .before .before .before .before .before .before .before .before in
-    let h = entered .pre .0 in
-    let j = at-pair-under-row .pair-under-row .kept .1 in
-    let k = at-pair .pair .kept .1 in
-    (record { some = omega (arith, h .some); most = h .most; near = le-refl _; first = le-refl _ }, planes-kept (entered .pre .1) (j .0 ∙ k .0) (j .1 .1 .0 ∙ k .1 .1 .0), omega (arith, entered .pre .2, k .1 .0, j .1 .0))
+mean-at-once-requires : tie.Need-mean-at-once-requires
+mean-at-once-requires c κs = search needs
 
 same-length : tie.Need-same-length
-same-length c = c .before .before .before .before .before .before .pair-under-row2 .kept .1 .0 ∙ c .before .before .before .before .before .before .before .before .before .before .before .before .before .before .before .before .before .pair-under-row .kept .1 .0 ∙ c .before .before .before .before .before .before .before .before .before .before .before .before .before .before .before .before .before .before .before .before .before .before .before .before .before .before .before .pair .kept .1 .0
+same-length c = search needs
 
 same-length-2 : tie.Need-same-length-2
-same-length-2 c = c .before .before .before .before .before .before .pair-under-row2 .kept .1 .1 .0 ∙ c .before .before .before .before .before .before .before .before .before .before .before .before .before .before .before .before .before .pair-under-row .kept .1 .1 .0 ∙ c .before .before .before .before .before .before .before .before .before .before .before .before .before .before .before .before .before .before .before .before .before .before .before .before .before .before .before .pair .kept .1 .1 .0
-
-same-length-3 : tie.Need-same-length-3
-same-length-3 c = c .before .before .before .before .before .before .pair-under-row2 .kept .1 .1 .1 .0 ∙ c .before .before .before .before .before .before .before .before .before .before .before .before .before .before .before .before .before .pair-under-row .kept .1 .1 .1 .0 ∙ c .before .before .before .before .before .before .before .before .before .before .before .before .before .before .before .before .before .before .before .before .before .before .before .before .before .before .before .pair .kept .1 .1 .1 .0
+same-length-2 c = search needs
 
 returns : tie.Need-returns
 returns c =
-    let at-pair-under-row2 = c .before .before .before .before .before .before in
-    let at-pair-under-row = at-pair-under-row2 .before .before .before .before .before .before .before .before .before .before .before in
-    let at-pair = at-pair-under-row .before .before .before .before .before .before .before .before .before .before in
-    let at-plane = at-pair .before .before .before .before in
+    let at-mean-at-once = c .before .before .before .before in
+    let at-if3 = at-mean-at-once .before .before .before in
+    let at-if2 = at-if3 .before .before in
+    let at-if1 = at-if2 .before in
+    let at-chunked = at-if1 .before .before in
+    let at-plane = at-chunked .before in
     let entered = at-plane .before .before .before .before in
     let a = entered .args in
-    mean-stages (a .self) (a .horizontal) (a .vertical) (a .diagonal) _ (at-plane .plane .ensures) (now (a .frame) ++ now (a .spill)) _ _ _ (at-pair .pair .ensures) (at-pair-under-row .pair-under-row .ensures) (at-pair-under-row2 .pair-under-row2 .ensures)
+    let F = now (a .frame) in
+    let S = now (a .spill) in
+    let tight = tight-tested (at-chunked .chunked .ensures .0) (at-if1 .if1 .taken) (at-plane .plane .ensures) (at-if2 .if2 .taken) (at-if3 .if3 .taken) in
+    ap (λ (x : List ℕ). x ++ S) (at-mean-at-once .mean-at-once .ensures)
+    ∙ tight-inside (length F) (length (now (a .scratch))) (a .self) (a .horizontal) (a .vertical) (a .diagonal) tight (entered .pre .0) (entered .pre .1) .aside F S refl
+
+mean-in-turn-requires : tie.Need-mean-in-turn-requires
+mean-in-turn-requires c κs = search needs
+
+same-length-3 : tie.Need-same-length-3
+same-length-3 c = search needs
+
+same-length-4 : tie.Need-same-length-4
+same-length-4 c = search needs
+
+same-length-5 : tie.Need-same-length-5
+same-length-5 c = search needs
+
+returns-2 : tie.Need-returns-2
+returns-2 c = search needs
 
 pub mean-planes-spec : {M : Type 1} → statement M
 mean-planes-spec =
     tie.close
     (tie.spec
     plane-requires
-    pair-requires
-    pair-under-row-requires
-    add-pair-under-row
-    pair-under-row-requires-2
+    chunked-requires
+    mul-if2
+    add-if3
+    mean-at-once-requires
     same-length
     same-length-2
+    returns
+    mean-in-turn-requires
     same-length-3
-    returns)
+    same-length-4
+    same-length-5
+    returns-2)

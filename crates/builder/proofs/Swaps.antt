@@ -1,4 +1,4 @@
--- Stores that don't see one another can be made in either order, and a loop that does two things a turn is two loops. Assumes nothing.
+-- Stores that don't see one another can be made in either order, and a loop that does two things a turn is two loops, as is one of more turns. Assumes nothing.
 use mathlib.Core.Path.{_≡_, refl, sym, ap, _∙_}
 use mathlib.Core.List.{List, _++_}
 use Prim.Native.Nat.{ℕ, zero, suc, _+_, _≤_, _<_}
@@ -6,9 +6,9 @@ use native.Mathlib.Omega.{arith}
 use lib.ListN.{length, take, drop, take-append-drop}
 use lib.Seq.{length-take-le}
 use Rattle.layouts.specs.Storing.{put, steps}
 use Rattle.builder.specs.Canvas.{fetch}
 use Rattle.builder.proofs.Runs.{fetch-length, fetch-at, is-fetch, put-past, put-length, put-left, put-right}
-use Rattle.demands.proofs.Kept.{steps-keep}
+use Rattle.builder.proofs.Stages.{turns}
 
 -- ---- two runs stored, the first before the second
 put-swap : (c x y : List ℕ) (a b : ℕ) → a + length x ≤ b → b ≤ length c → put (put c a x) b y ≡ put (put c b y) a x
@@ -41,7 +41,18 @@ pub stores-swap : (a b : ℕ) (r s : List ℕ → List ℕ) (c : List ℕ) → a
 stores-swap a b r s c apart fits es er =
     ap (put (put c a (r c)) b) es ∙ put-swap c (r c) (s c) a b apart fits ∙ ap (put (put c b (s c)) a) (sym er)
 
--- ---- loops, on lists of which Q holds
+-- ---- loops
+-- one loop is two, of the first turns and of the others
+pub steps-more : (step : ℕ → List ℕ → List ℕ) (m n : ℕ) (c : List ℕ) → steps step (m + n) c ≡ steps (λ k. step (m + k)) n (steps step m c)
+unfolding steps
+steps-more step m zero c = let none : m + 0 ≡ m = omega arith in ap (λ (k : ℕ). steps step k c) none
+steps-more step m (suc n) c = let next : m + suc n ≡ suc (m + n) = omega arith in ap (λ (k : ℕ). steps step k c) next ∙ ap (step (m + n)) (steps-more step m n c)
+
+-- every step keeps Q
+pub steps-keep : (Q : List ℕ → Type 0) (step : ℕ → List ℕ → List ℕ) (n : ℕ) (c : List ℕ) → ((y : ℕ) (d : List ℕ) → y < n → Q d → Q (step y d)) → Q c → Q (steps step n c)
+steps-keep Q step n c keep q = turns {R = λ d e. Q d} step step n (λ y lt. record { each = λ d e. keep y d lt }) .each c c q
+
+-- on lists of which Q holds
 module _ (Q : List ℕ → Type 0) where
   pub steps-alike : (f g : ℕ → List ℕ → List ℕ) (n : ℕ) → ((y : ℕ) (c : List ℕ) → y < n → Q c → Q (g y c)) → ((y : ℕ) (c : List ℕ) → y < n → Q c → f y c ≡ g y c) → (c : List ℕ) → Q c → steps f n c ≡ steps g n c
   unfolding steps
@@ -51,7 +62,7 @@ module _ (Q : List ℕ → Type 0) where
       ∙ same n (steps g n c) (omega arith) (steps-keep Q g n c (λ y d l. keep y d (omega arith)) q)
 
   -- a step that commutes with each turn commutes with the loop
-  steps-past : (step : List ℕ → List ℕ) (g : ℕ → List ℕ → List ℕ) (n : ℕ) → ((y : ℕ) (c : List ℕ) → y < n → Q c → Q (g y c)) → ((y : ℕ) (c : List ℕ) → y < n → Q c → step (g y c) ≡ g y (step c)) → (c : List ℕ) → Q c → step (steps g n c) ≡ steps g n (step c)
+  pub steps-past : (step : List ℕ → List ℕ) (g : ℕ → List ℕ → List ℕ) (n : ℕ) → ((y : ℕ) (c : List ℕ) → y < n → Q c → Q (g y c)) → ((y : ℕ) (c : List ℕ) → y < n → Q c → step (g y c) ≡ g y (step c)) → (c : List ℕ) → Q c → step (steps g n c) ≡ steps g n (step c)
   unfolding steps
   steps-past step g zero keep swap c q = refl
   steps-past step g (suc n) keep swap c q =
