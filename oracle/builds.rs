@@ -321,6 +321,12 @@ fn differing() -> Vec<Case> {
     }).collect()
 }
 
+/// Planes of means whose rows leave no gap, which are made at once.
+fn at_once() -> Vec<Case> {
+    [(2, 16, 16, 16), (2, 20, 24, 32), (2, 64, 8, 64), (4, 16, 16, 16), (4, 48, 12, 48)].into_iter()
+        .map(|(pel, width, height, pitch)| plan(record(pel, 1, 4, 0, true, width, height), (0, 0), pitch).case()).collect()
+}
+
 /// Cases that went wrong in a draft or look as if they could, each with an exact frame and with 255s past its end.
 fn hard() -> Vec<Case> {
     [
@@ -355,7 +361,7 @@ fn faults() -> Vec<Vec<u32>> {
     NUMBERS.flat_map(|a| NUMBERS.filter(move |&b| a <= b).map(move |b| if a == b { vec![a] } else { vec![a, b] })).collect()
 }
 
-/// Kinds: `halving`, `whole` and `generic`, some with one or two faults; `large`; `kept`, the hard cases, every two faults, small sizes of the first two kinds, then some of the third, and the planes of docs/TWO-PATHS.md by both paths.
+/// Kinds: `halving`, `whole` and `generic`, some with one or two faults; `large`; `kept`, the hard cases, every two faults, small sizes of the first two kinds, then some of the third, the planes of docs/TWO-PATHS.md by both paths, and planes that are made at once.
 /// Of kind `generic` the fused path is off, and half of the frames hold zeros.
 pub fn cases(seed: u64, count: u64, kind: &str) {
     let mut rng = Random(seed);
@@ -402,6 +408,10 @@ pub fn cases(seed: u64, count: u64, kind: &str) {
     }
     if kind == "kept" {
         for c in differing() { write(&mut out, &c); }
+        for mut c in at_once() {
+            c.words[WHOLE] = 1;
+            write(&mut out, &filled(rng, c));
+        }
     }
 }
 
