@@ -5,8 +5,8 @@
    sizes and layouts, frames.
 
    Numbers. Each call but sill_prepare_alike returns 0 where it is done, else the number that says why not: those of document 01's
-   table, and document 02's 15 to 18, which the table leaves free. Where more than one applies the lowest is given, and none other; only
-   sill_longhand_read has an order of its own, told there.
+   table, and document 02's 15 to 18, 23 and 24, which the table leaves free. Where more than one applies the lowest is given, and none
+   other; sill_longhand_read and the calls for three planes have an order of their own, told there.
 
    Slices. A slice is a pointer and then a count of elements, and the pointer is aligned for its type, as C's own arrays are.
    Where the count is 0 the pointer isn't looked at and may be NULL: a slice that is missing is a slice of length 0, and gets the
@@ -79,7 +79,9 @@ enum {
     SILL_NO_ROW = 19,          /* no such level, plane or row is stored */
     SILL_NO_CODE = 20,         /* the word is no code */
     SILL_NO_DOWN = 21,         /* halving filter isn't told */
-    SILL_NO_UP = 22            /* upscale filter isn't told */
+    SILL_NO_UP = 22,           /* upscale filter isn't told */
+    SILL_NO_CHROMA = 23,       /* three planes: width or height is below 2 */
+    SILL_NO_FULL = 24          /* three planes: the record isn't full */
 };
 
 /* How many elements a record has, and each call's answer. */
@@ -93,7 +95,8 @@ enum {
     SILL_COUNT_REGIONS = 40,
     SILL_COUNT_END = 1,
     SILL_COUNT_NEEDS = 2,
-    SILL_COUNT_PLACE = 2
+    SILL_COUNT_PLACE = 2,
+    SILL_COUNT_PARTS = 12
 };
 
 /* The places of a record. */
@@ -121,6 +124,13 @@ enum {
 enum { SILL_SIZE_WIDTH, SILL_SIZE_HEIGHT };
 enum { SILL_NEED_SPILL, SILL_NEED_SCRATCH };
 enum { SILL_PLACE_OFFSET, SILL_PLACE_LENGTH };
+
+/* The parts of a frame of three planes, in the order in which they are joined; then the places of what sill_frame_parts tells. */
+enum { SILL_Y, SILL_U, SILL_V };
+enum {
+    SILL_Y_START, SILL_Y_PITCH, SILL_Y_LENGTH, SILL_U_START, SILL_U_PITCH, SILL_U_LENGTH, SILL_V_START, SILL_V_PITCH, SILL_V_LENGTH,
+    SILL_FRAME_LENGTH, SILL_FRAME_SPILL, SILL_FRAME_SCRATCH
+};
 
 /* The bits of `given`: which settings are present. */
 enum {
@@ -209,6 +219,29 @@ uint32_t sill_row(size_t frame_length, const int32_t *record, size_t record_coun
 uint32_t sill_build_plane(uint8_t *frame, size_t frame_count, uint8_t *spill, size_t spill_count, uint8_t *scratch, size_t scratch_count,
                           const int32_t *record, size_t record_count, uint32_t x_shift, uint32_t y_shift, size_t pitch,
                           const uint8_t *src, size_t src_count, size_t src_pitch);
+
+/* Where the planes of a frame of three lie. Writes SILL_COUNT_PARTS numbers: for Y, U and V where its part of the frame starts, its
+   pitch and its length; then how long the frame has to be, and how many bytes sill_build_frame has to be lent of spill and scratch.
+   U and V have floor(width / 2) by floor(height / 2) samples.
+   Numbers: 6 SILL_NO_RECORD, 15 SILL_NO_ROOM, 23 SILL_NO_CHROMA, 24 SILL_NO_FULL. */
+uint32_t sill_frame_parts(const int32_t *record, size_t record_count, size_t *parts, size_t parts_count);
+
+/* Where a row of one of the three planes lies in a frame of frame_length bytes. part is SILL_Y, SILL_U or SILL_V; level, plane and y are
+   those of sill_row. Writes SILL_COUNT_PLACE numbers: offset, from the frame's first byte on, and length.
+   Numbers, in the order in which they are looked for: 6 SILL_NO_RECORD, 23 SILL_NO_CHROMA, 24 SILL_NO_FULL, 11 SILL_BAD_FRAME (shorter than
+   the three parts together), 19 SILL_NO_ROW; where `place` is too short, 15 SILL_NO_ROOM stands in place of 19, 23 and 24. */
+uint32_t sill_frame_row(size_t frame_length, const int32_t *record, size_t record_count, uint32_t part, uint32_t level, size_t plane,
+                        size_t y, size_t *place, size_t place_count);
+
+/* Builds all three planes of a picture in one frame: Y, U and V, each from a source and with a source pitch of its own, each in its part
+   of the frame (sill_frame_parts) as sill_build_plane would by shifts 0, 0 and 1, 1. Everything is tested before the first byte is
+   stored. Bytes past the third part stay. What is said at sill_build_plane of spill, scratch and earlier bytes holds here.
+   Numbers, in the order in which they are looked for: 6 SILL_NO_RECORD, 23 SILL_NO_CHROMA, 24 SILL_NO_FULL; 9 SILL_BAD_SOURCE_PITCH of
+   Y, U or V; 10 SILL_BAD_SOURCE of Y, U or V; 11 SILL_BAD_FRAME, shorter than the three parts together; 12 SILL_BAD_SPILL;
+   13 SILL_BAD_SCRATCH. */
+uint32_t sill_build_frame(uint8_t *frame, size_t frame_count, uint8_t *spill, size_t spill_count, uint8_t *scratch, size_t scratch_count,
+                          const int32_t *record, size_t record_count, const uint8_t *y, size_t y_count, size_t y_pitch,
+                          const uint8_t *u, size_t u_count, size_t u_pitch, const uint8_t *v, size_t v_count, size_t v_pitch);
 
 #ifdef __cplusplus
 }
