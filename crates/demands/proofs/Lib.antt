@@ -1,5 +1,4 @@
 -- What is proved of the definitions, from the general to the special:
---     Enough     the spill need covers every store of a build
 --     Before     nothing that is computed depends on what lies before the canvas or a row
 --     ByHand     document 01's examples, computed
 --     Unique     no second outcome meets a public call's contract
@@ -9,7 +8,6 @@
 --     Witness    a plane by which two settings of a filter that isn't told are known apart
 --     Demanded   demand 3 over the definitions, byte for byte
 --     Demand     demand 3, and comparing words, about the calls
-pub mod Enough
 pub mod Before
 pub mod ByHand
 pub mod Unique

@@ -16,7 +16,7 @@ use settings::refusal::BadLent;
 use settings::refusal::Refusal;
 use settings::refusal::Tested;
 
-fn source_need(layout: Layout, src_pitch: usize) -> usize
+pub fn source_need(layout: Layout, src_pitch: usize) -> usize
     requires { ⌜ (layoutNo layout ≡ 0) × («src_pitch» ≤ mostPitch) ⌝ }
     ensures { λ r. ⌜ r ≡ sourceNeed layout «src_pitch» ⌝ }
 {
@@ -44,7 +44,7 @@ pub fn spill_need(layout: Layout) -> usize
     height(layout, 1) * layout.pitch
 }
 
-pub(crate) fn scratch_need(layout: Layout) -> usize
+pub fn scratch_need(layout: Layout) -> usize
     requires { ⌜ layoutNo layout ≡ 0 ⌝ }
     ensures { λ r. ⌜ r ≡ scratchNeed layout ⌝ }
 {

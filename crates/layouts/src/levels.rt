@@ -26,7 +26,7 @@ fn shifted(n: u32, shift: u32) -> u32
     0
 }
 
-pub(crate) fn bad_pitch(pitch: usize, least: usize) -> bool
+pub fn bad_pitch(pitch: usize, least: usize) -> bool
     ensures { λ r. ⌜ r ≡ badPitch pitch least ⌝ }
 {
     (pitch < 1) | (pitch < least) | (pitch > MOST_PITCH)

@@ -41,7 +41,7 @@ use Rattle.planes.proofs.Prepared.{fused-four, fused-wide, fused-whole, within-
 use Rattle.planes.proofs.Parts.{refined-kept}
 use Rattle.planes.proofs.Whole.{copied-placed}
 use Rattle.planes.proofs.Built.{refining-placed}
-use Rattle.demands.proofs.Enough.{length-kept}
+use Rattle.planes.proofs.Enough.{length-kept}
 use Rattle.demands.proofs.Kept.{Has, Off, has-after, copied-past, stored-off, refined-past}
 use Rattle.paths.specs.Paths.{fusedHalving, genericHalving, placeAt, ZeroMargins, FusedMarginsZero}
 use Rattle.builder.proofs.Swaps.{steps-keep, steps-alike}

@@ -29,7 +29,7 @@ use Rattle.builder.proofs.halving.reduce_cubic.Reads as reduce-cubic-reads
 use Rattle.builder.proofs.halving.reduce_within.Reads as reduce-within-reads
 use Rattle.planes.proofs.Prepared.{cubic-whole, within-here}
 use Rattle.planes.proofs.Whole.{ready}
-use Rattle.demands.proofs.Enough.{length-kept}
+use Rattle.planes.proofs.Enough.{length-kept}
 use Rattle.builder.proofs.Swaps.{steps-keep}
 use Rattle.demands.proofs.Kept.{Has, Off, KeepsByte, has-after, steps-hit, stored-off, clear-off}
 use Rattle.demands.proofs.Demand.{both-ways}

@@ -1,4 +1,4 @@
--- A build, whole: what the refusals leave; level 0's rows and planes lie in the frame; the stages one after the other; and the frame that is left. Assumes nothing.
+-- A build, whole: what the refusals leave; level 0's rows and planes lie in the frame; the stages one after the other; and what is left. Assumes nothing.
 use mathlib.Core.Path.{_≡_, refl, sym, ap, subst, _∙_}
 use mathlib.Core.Bool.{Bool, true, false, cond, _&&_, _||_}
 use mathlib.Core.List.{List, _++_}
@@ -13,8 +13,10 @@ use borrow.Author.Tests.{ltb-false, ne-eqb}
 use Rattle.settings.specs.Limits.{mostPitch}
 use Rattle.settings.specs.Numbers.{refuse, _then_, toNat}
 use Rattle.settings.specs.Check.{pelOf}
+use Rattle.settings.specs.Answers.{answer}
 use Rattle.settings.proofs.Tests.{and-left, and-right, or-false-left, or-false-right}
 use Rattle.settings.proofs.Refusals.{then-first, then-rest, refuse-not}
+use Rattle.settings.proofs.Known.{given}
 use Rattle.filters.specs.declared.half_pel.Upscale.{Upscale}
 use Rattle.filters.specs.Halve.{chosen}
 use Rattle.filters.specs.Refine.{upscale}
@@ -32,7 +34,7 @@ use Rattle.builder.proofs.Related.{Bytes, Rel, same-bytes, rel-same}
 use Rattle.builder.proofs.Stages.{Respects, still, either, Notion}
 use Rattle.builder.proofs.Placed.{Allows}
 use Rattle.builder.proofs.Inside.{Inside, beside-allows, inside-by}
-use Rattle.planes.specs.Build.{planesOf, copied, halvedBy, refines, refined, builtBy, frameBy}
+use Rattle.planes.specs.Build.{planesOf, copied, halvedBy, refines, refined, builtBy, frameBy, lentAfter}
 use Rattle.planes.proofs.Prepared.{source-need}
 use Rattle.planes.proofs.Parts.{copied-kept}
 
@@ -169,9 +171,13 @@ all-stages fuse q {n} {sp} src F S F1 c2 c3 r some kept e1 e2 e3 =
     ∙ ap (refined q) (e2 ∙ ap (λ (k : ℕ). halvedBy fuse q src sp k f (F1 ++ S)) kept ∙ ap (halvedBy fuse q src sp (length F) f) whole)
     ∙ sym (cond-no (eqb (levelsOf q) 0) (F ++ S) _ (ne-eqb (levelsOf q) 0 (λ z. omega (arith, z, some))))
 
--- ---- the frame that is left
+-- ---- what is left
 pub frame-left : (fuse : Bool) (q : Layout) (src F G T Z : List ℕ) (sp : ℕ) → length G ≡ length F → Z ≡ replicate (spillNeed q) 0 → G ++ T ≡ builtBy fuse q src sp (length F) (F ++ Z) → G ≡ frameBy fuse q src sp F
 unfolding frameBy
 frame-left fuse q src F G T Z sp kept zeros e =
     sym (take-at G T (length F) kept)
     ∙ ap (take (length F)) (e ∙ ap (λ (x : List ℕ). builtBy fuse q src sp (length F) (F ++ x)) zeros)
+
+-- what was lent as l was of k bytes still, and was zeroed
+pub lent-zeroed : (n k : ℕ) (l z : List ℕ) → z ≡ replicate k 0 → k ≡ length l → n ≡ 0 → answer 0 z ≡ lentAfter n l
+lent-zeroed n k l z e kept none = ap (answer 0) (e ∙ ap (λ (m : ℕ). replicate m 0) kept) ∙ given n (replicate (length l) 0) l none

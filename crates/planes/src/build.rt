@@ -82,8 +82,8 @@ fn build_levels(
     refine_planes(frame, spill, scratch, layout);
 }
 
-// As much of the spill as a build may read holds zeros before.
-fn build_spilled(
+// The build itself, for calls that have tested what they are lent. As much of the spill as it may read holds zeros before.
+pub fn build_spilled(
     fuse: bool,
     frame: &mut [u8],
     spill: &mut [u8],

@@ -7,7 +7,7 @@ use lib.Dec.{eqb}
 use lib.IntN.{ℤ, pos}
 use lib.ListN.{length, drop}
 use Rattle.settings.specs.declared.refusal.Refusal.{Refusal}
-use Rattle.settings.specs.declared.refusal.Refusal.the-variants.{Setting, NoRecord, Layout, Lent, Levels, Longhand, NoRow, Word as BadCode}
+use Rattle.settings.specs.declared.refusal.Refusal.the-variants.{Setting, NoRecord, Layout, Lent, Levels, Longhand, NoRow, Word as BadCode, Planes}
 use Rattle.settings.specs.declared.refusal.BadSetting.{BadSetting}
 use Rattle.settings.specs.declared.refusal.BadSetting.the-variants.{Pel, Gpu, Finest, Lean, Side}
 use Rattle.settings.specs.declared.refusal.BadLayout.{BadLayout}
@@ -18,6 +18,8 @@ use Rattle.settings.specs.declared.refusal.BadLonghand.{BadLonghand}
 use Rattle.settings.specs.declared.refusal.BadLonghand.the-variants.{Short, Length, Contents}
 use Rattle.settings.specs.declared.refusal.BadWord.{BadWord}
 use Rattle.settings.specs.declared.refusal.BadWord.the-variants.{NoCode, Halving, Upscale}
+use Rattle.settings.specs.declared.refusal.BadPlanes.{BadPlanes}
+use Rattle.settings.specs.declared.refusal.BadPlanes.the-variants.{Side as ShortSide, Full as NotFull}
 use Rattle.settings.specs.declared.refusal.Tested.{Tested}
 use Rattle.settings.specs.declared.refusal.Tested.the-variants.{Fine, Refused as TestRefused}
 use Rattle.settings.specs.declared.super_opts.OptInt.the-variants.{Absent as NoInt}
@@ -66,6 +68,10 @@ wordNumber NoCode = 20
 wordNumber Halving = 21
 wordNumber Upscale = 22
 
+abbrev pub planesNumber : BadPlanes → ℕ
+planesNumber ShortSide = 23
+planesNumber NotFull = 24
+
 abbrev pub number : Refusal → ℕ
 number (Setting f) = settingNumber f
 number NoRecord = 6
@@ -75,6 +81,7 @@ number Levels = 14
 number (Longhand f) = longhandNumber f
 number NoRow = 19
 number (BadCode f) = wordNumber f
+number (Planes f) = planesNumber f
 
 -- a number, and the value that goes with it
 pub record Answer (A : Type 0) : Type 0 where

@@ -4,7 +4,7 @@
 ghost use mathlib.Core.Path.{_≡_};
 ghost use lib.Dec.{eqb};
 ghost use Rattle.settings.specs.Numbers.{refuse, _then_};
-ghost use Rattle.settings.specs.Answers.{settingNumber, layoutNumber, lentNumber, longhandNumber, wordNumber, number, tested};
+ghost use Rattle.settings.specs.Answers.{settingNumber, layoutNumber, lentNumber, longhandNumber, wordNumber, planesNumber, number, tested};
 
 // Why a call is refused: "Numbers a call can give" of document 01, and those of document 02, by what is at fault.
 pub enum Refusal {
@@ -16,6 +16,7 @@ pub enum Refusal {
     Longhand(BadLonghand),
     NoRow,
     Word(BadWord),
+    Planes(BadPlanes),
 }
 
 pub enum BadSetting {
@@ -50,6 +51,12 @@ pub enum BadWord {
     NoCode,
     Halving,
     Upscale,
+}
+
+// Of a record that a frame of three planes is asked for.
+pub enum BadPlanes {
+    Side,
+    Full,
 }
 
 // What a row of tests says: nothing against it, or the first that applies.
@@ -121,6 +128,17 @@ impl BadWord {
     }
 }
 
+impl BadPlanes {
+    fn number(self) -> u32
+        ensures { λ r. ⌜ r ≡ planesNumber self ⌝ }
+    {
+        match self {
+            BadPlanes::Side => 23,
+            BadPlanes::Full => 24,
+        }
+    }
+}
+
 impl Refusal {
     pub fn number(self) -> u32
         ensures { λ r. ⌜ r ≡ number self ⌝ }
@@ -134,6 +152,7 @@ impl Refusal {
             Refusal::Longhand(f) => f.number(),
             Refusal::NoRow => 19,
             Refusal::Word(f) => f.number(),
+            Refusal::Planes(f) => f.number(),
         }
     }
 }

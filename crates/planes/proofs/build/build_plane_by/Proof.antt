@@ -1,23 +1,17 @@
 -- `build_plane_by` meets its contract. Assumes nothing.
 use mathlib.Core.Path.{_≡_, sym, ap, _∙_}
-use mathlib.Core.List.{List}
-use Prim.Native.Nat.{ℕ}
 use lib.ListN.{length, replicate}
 use denote.Ref.{now}
 use borrow.Author.Needs.{needs}
 use Rattle.settings.specs.Answers.{answer, tested}
 use Rattle.settings.proofs.Known.{given, refused}
-use Rattle.planes.specs.Build.{frameBy, planeNo, lentAfter}
-use Rattle.planes.proofs.Whole.{ready}
+use Rattle.planes.specs.Build.{frameBy, planeNo}
+use Rattle.planes.proofs.Whole.{ready, lent-zeroed}
 use Rattle.planes.proofs.build.build_plane_by.Statement.{statement}
 use Rattle.planes.proofs.build.build_plane_by.Tie as tie
 
 passed : (c : tie.After-enum-told) → planeNo (c .before .before .before .before .before .before .before .args .layout) (now (c .before .before .before .before .before .before .before .args .src)) (c .before .before .before .before .before .before .before .args .src-pitch) (now (c .before .before .before .before .before .before .before .args .frame)) (now (c .before .before .before .before .before .before .before .args .spill)) (now (c .before .before .before .before .before .before .before .args .scratch)) ≡ 0
 passed c = sym (c .before .before .build-tested .ensures) ∙ ap tested (c .enum-told .given .1)
-
--- what was lent as l was of k bytes still, and was zeroed
-zeros : (n k : ℕ) (l z : List ℕ) → z ≡ replicate k 0 → k ≡ length l → n ≡ 0 → answer 0 z ≡ lentAfter n l
-zeros n k l z e kept none = ap (answer 0) (e ∙ ap (λ (m : ℕ). replicate m 0) kept) ∙ given n (replicate (length l) 0) l none
 
 build-tested-requires : tie.Need-build-tested-requires
 build-tested-requires c κs = tt
@@ -74,7 +68,7 @@ returns-2 c =
     let n = planeNo (a .layout) src (a .src-pitch) F S X in
     let e = passed at-told in
     let k = at-build-spilled .build-spilled .kept .1 in
-    (ap (answer 0) (at-build-spilled .build-spilled .ensures) ∙ given n (frameBy (a .fuse) (a .layout) src (a .src-pitch) F) F e, zeros n _ S _ (at-zero-row .zero-row .ensures) (k .1 .0) e, zeros n _ X _ (at-zero-row2 .zero-row2 .ensures) (k .1 .1 .0) e)
+    (ap (answer 0) (at-build-spilled .build-spilled .ensures) ∙ given n (frameBy (a .fuse) (a .layout) src (a .src-pitch) F) F e, lent-zeroed n _ S _ (at-zero-row .zero-row .ensures) (k .1 .0) e, lent-zeroed n _ X _ (at-zero-row2 .zero-row2 .ensures) (k .1 .1 .0) e)
 
 pub build-plane-by-spec : {M : Type 1} → statement M
 build-plane-by-spec =

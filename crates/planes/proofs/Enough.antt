@@ -1,9 +1,10 @@
--- Document 01's spill need covers every store: a build keeps the length of frame and spill, so that all that it stores lies in them (law `put-reaches`). First a stage's length, then the build's. Assumes nothing.
-use mathlib.Core.Path.{_≡_, _∙_}
+-- Document 01's spill need covers every store: a build keeps the length of frame and spill, so that all that it stores lies in them (law `put-reaches`). First a stage's length, then the build's, then that of the frame that it leaves. Assumes nothing.
+use mathlib.Core.Path.{_≡_, refl, _∙_}
 use mathlib.Core.List.{List, _++_}
 use Prim.Native.Nat.{ℕ, _+_, _≤_}
 use native.Mathlib.Omega.{arith}
 use lib.ListN.{length, replicate, length-append, length-replicate}
+use lib.Seq.{length-take-le}
 use Rattle.filters.specs.Refine.{upscale}
 use Rattle.layouts.specs.declared.layout.Layout.{Layout}
 use Rattle.layouts.specs.Layout.{spillNeed}
@@ -13,9 +14,9 @@ use Rattle.builder.proofs.Runs.{put-length}
 use Rattle.builder.proofs.Related.{Any, any-bytes, any-ups, any-row}
 use Rattle.builder.proofs.Stages.{Keeps, Notion}
 use Rattle.builder.proofs.Placed.{Allows}
-use Rattle.planes.specs.Build.{built}
-use Rattle.planes.proofs.Whole.{ready}
+use Rattle.planes.specs.Build.{built, builtFrame, frameBy}
+use Rattle.planes.proofs.Whole.{ready, ready-lent}
 use Rattle.planes.proofs.Built.{built-placed}
 
 -- a canvas of `long` bytes stays one of as many where each store lies in it
 lengths : ℕ → Notion Any
@@ -43,6 +44,14 @@ pub spill-enough : (q : Layout) (sp scratch : ℕ) (src F S : List ℕ) → Read
 spill-enough q sp scratch src F S r = keeps-built q r src (F ++ S) (length-append F S)
 
 -- with a spill of the need, which holds zeros before
+zeros-enough : (q : Layout) {n sp scratch : ℕ} (src F : List ℕ) → Ready q n sp (length F) (spillNeed q) scratch → length (built q src sp (length F) (F ++ replicate (spillNeed q) 0)) ≡ length F + spillNeed q
+zeros-enough q src F r =
+    keeps-built q r src (F ++ replicate (spillNeed q) 0) (length-append F (replicate (spillNeed q) 0) ∙ omega (arith, length-replicate {A = ℕ} (spillNeed q) 0))
+
 pub need-enough : (q : Layout) (sp scratch : ℕ) (src F : List ℕ) → buildNo q (length src) sp (length F) (spillNeed q) scratch ≡ 0 → length (built q src sp (length F) (F ++ replicate (spillNeed q) 0)) ≡ length F + spillNeed q
-need-enough q sp scratch src F e =
-    keeps-built q (ready q (length src) sp (length F) (spillNeed q) scratch e) src (F ++ replicate (spillNeed q) 0) (length-append F (replicate (spillNeed q) 0) ∙ omega (arith, length-replicate {A = ℕ} (spillNeed q) 0))
+need-enough q sp scratch src F e = zeros-enough q src F (ready q (length src) sp (length F) (spillNeed q) scratch e)
+
+-- the frame that is left is as long as it was
+pub frame-long : (q : Layout) {n sp spill scratch : ℕ} (src F : List ℕ) → Ready q n sp (length F) spill scratch → length (builtFrame q src sp F) ≡ length F
+unfolding frameBy
+frame-long q src F r = length-take-le (length F) _ (omega (arith, zeros-enough q src F (ready-lent r refl (omega arith) (r .room))))

@@ -1,0 +1,95 @@
+-- A row of a part: its number, in a frame that is the part alone and in the whole; where it lies in the whole, and that it ends in it. Assumes nothing.
+use mathlib.Core.Path.{_≡_, refl, sym, ap, _∙_}
+use mathlib.Core.Bool.{false}
+use mathlib.Core.List.{List}
+use Prim.Native.Nat.{ℕ, zero, suc, _+_, _*_, _≤_, _<_}
+use native.Mathlib.Omega.{arith}
+use lib.Dec.{leb, ltb}
+use lib.ListN.{length, take, drop}
+use borrow.Author.Tests.{ltb-false, leb-false, le-ltb}
+use Rattle.settings.specs.declared.super_opts.SuperOpts.{SuperOpts}
+use Rattle.settings.specs.declared.refusal.Refusal.{Refusal}
+use Rattle.settings.specs.Numbers.{refuse, _then_}
+use Rattle.settings.specs.Answers.{Answer, answer, ifDone, number}
+use Rattle.settings.proofs.Refusals.{then-first, then-rest, refuse-not}
+use Rattle.settings.proofs.Known.{given, refused, number-of, value-given}
+use Rattle.layouts.specs.declared.layout.Layout.{Layout}
+use Rattle.layouts.specs.declared.rows.Run.{Run}
+use Rattle.layouts.specs.Layout.{widthAt, rowStart}
+use Rattle.layouts.specs.Refusals.{frameNo, noRow, rowNo}
+use Rattle.layouts.specs.Answers.{runOf, noRun, placeAnswer}
+use Rattle.layouts.specs.Room.{mostOffset}
+use Rattle.layouts.proofs.Layouts.{then-kept, row-ends}
+use Rattle.frames.specs.Parts.{planeOf, lengthOf, startOf, joinedEnd, planesNo, partNo, rowInNo, runInOf, placeInAnswer, rowInPart, rowInFrom}
+use Rattle.frames.proofs.Laid.{laid-out, length-le, start-next, start-le}
+
+-- ---- a part that isn't refused
+pub record There (r : SuperOpts) (len k : ℕ) : Type 0 where
+  pub planes : planesNo r ≡ 0
+  pub end : joinedEnd r ≤ len
+  pub part : k < 3
+
+pub there : (r : SuperOpts) (len k : ℕ) → partNo r len k ≡ 0 → There r len k
+there r len k e =
+    let short = refuse (ltb len (joinedEnd r)) 11 in
+    let none = refuse (leb 3 k) 19 in
+    let first = then-first (planesNo r then short) none e in
+    record {
+      planes = then-first (planesNo r) short first;
+      end = ltb-false len (joinedEnd r) (refuse-not (ltb len (joinedEnd r)) 10 (then-rest (planesNo r) short first));
+      part = leb-false 3 k (refuse-not (leb 3 k) 18 (then-rest (planesNo r then short) none e));
+    }
+
+part-ends : (r : SuperOpts) (k : ℕ) → k < 3 → startOf r k + lengthOf r k ≤ joinedEnd r
+part-ends r zero h = omega (arith, start-next r 0, start-next r 1, start-next r 2)
+part-ends r (suc zero) h = omega (arith, start-next r 1, start-next r 2)
+part-ends r (suc (suc zero)) h = omega (arith, start-next r 2)
+part-ends r (suc (suc (suc k))) h = absurd (omega arith)
+
+module _ (r : SuperOpts) (k l j y : ℕ) where
+  -- ---- in a frame that is the part alone
+  alone : planesNo r ≡ 0 → rowNo (planeOf r k) (lengthOf r k) l j y ≡ refuse (noRow (planeOf r k) l j y) 19
+  unfolding rowNo frameNo
+  alone e = rw (laid-out r e k, le-ltb (lengthOf r k) (lengthOf r k) (omega arith)) refl
+
+  pub placed-alone : planesNo r ≡ 0 → {q : Layout} {n : ℕ} {a : Answer Run} → q ≡ planeOf r k → n ≡ lengthOf r k → a ≡ placeAnswer q n l j y → a ≡ ifDone (refuse (noRow (planeOf r k) l j y) 19) (runOf (planeOf r k) l j y) noRun
+  placed-alone e is long at = at ∙ rw (is, long, alone e) refl
+
+  ends-alone : planesNo r ≡ 0 → noRow (planeOf r k) l j y ≡ false → rowStart (planeOf r k) l j y + widthAt (planeOf r k) l ≤ lengthOf r k
+  ends-alone e none = row-ends (planeOf r k) (lengthOf r k) l j y (record { frame = record { layout = laid-out r e k; end = omega arith }; none = none })
+
+  -- ---- in the whole
+  module _ {n : ℕ} {at : Run} (e : answer 0 at ≡ ifDone n (runOf (planeOf r k) l j y) noRun) {s : ℕ} (starts : s ≡ startOf r k) where
+    run : at ≡ runOf (planeOf r k) l j y
+    run = value-given (runOf (planeOf r k) l j y) noRun e
+
+    pub moved : answer 0 (record { offset = s + at .offset; length = at .length }) ≡ ifDone n (runInOf r k l j y) noRun
+    moved = ap (answer 0) (rw (starts, run) refl) ∙ given n (runInOf r k l j y) noRun (sym (number-of e))
+
+    pub moved-le : planesNo r ≡ 0 → k ≤ 3 → n ≡ refuse (noRow (planeOf r k) l j y) 19 → s + at .offset ≤ 4 * mostOffset
+    moved-le p h is = omega (arith, starts, ap (λ (x : Run). x .offset) run, ends-alone p (refuse-not (noRow (planeOf r k) l j y) 18 (sym is ∙ sym (number-of e))), length-le r p k, start-le r p k)
+
+  pub placed-in : (len : ℕ) → partNo r len k ≡ 0 → {a : Answer Run} → a ≡ ifDone (refuse (noRow (planeOf r k) l j y) 19) (runInOf r k l j y) noRun → a ≡ placeInAnswer r len k l j y
+  unfolding rowInNo
+  placed-in len e at = at ∙ rw e refl
+
+  pub refused-in : (len : ℕ) (f : Refusal) → number f ≡ partNo r len k → answer (number f) noRun ≡ placeInAnswer r len k l j y
+  unfolding rowInNo
+  refused-in len f e = refused (rowInNo r len k l j y) f (runInOf r k l j y) noRun (e ∙ then-kept f (partNo r len k) (refuse (noRow (planeOf r k) l j y) 19) e)
+
+  pub ends-in : (len : ℕ) {at : Run} → answer 0 at ≡ placeInAnswer r len k l j y → at .offset + at .length ≤ len
+  unfolding rowInNo
+  ends-in len {at} e =
+      let none = refuse (noRow (planeOf r k) l j y) 19 in
+      let passed = sym (number-of e) in
+      let part = there r len k (then-first (partNo r len k) none passed) in
+      let run : at ≡ runInOf r k l j y = value-given (runInOf r k l j y) noRun e in
+      omega (arith, ap (λ (x : Run). x .offset) run, ap (λ (x : Run). x .length) run, ends-alone (part .planes) (refuse-not (noRow (planeOf r k) l j y) 18 (then-rest (partNo r len k) none passed)), part-ends r k (part .part), part .end)
+
+  -- by what a call told, the row or none
+  pub row-told : (f : List ℕ) {n : ℕ} {at : Run} → answer n at ≡ placeInAnswer r (length f) k l j y → take (at .length) (drop (at .offset) f) ≡ rowInPart r f k l j y
+  unfolding rowInPart
+  row-told f e = ap (λ (x : Answer Run). take (x .value .length) (drop (x .value .offset) f)) e
+
+  pub from-told : (len : ℕ) {n : ℕ} {at : Run} → answer n at ≡ placeInAnswer r len k l j y → at .offset ≡ rowInFrom r len k l j y
+  from-told len e = ap (λ (x : Answer Run). x .value .offset) e
