@@ -37,10 +37,15 @@ use Rattle.layouts.proofs.levels.height.Reads as height-reads
 use Rattle.layouts.proofs.levels.offset.Reads as offset-reads
 use Rattle.layouts.proofs.levels.region.Reads as region-reads
 use Rattle.layouts.proofs.lent.spill_need.Reads as spill-need-reads
+use Rattle.layouts.proofs.lent.source_need.Reads as source-need-reads
+use Rattle.layouts.proofs.lent.scratch_need.Reads as scratch-need-reads
 use Rattle.layouts.proofs.lent.build_tested.Reads as build-tested-reads
+use Rattle.layouts.proofs.levels.bad_pitch.Reads as bad-pitch-reads
 use Rattle.layouts.proofs.margins.is_fused.Reads as is-fused-reads
 use Rattle.builder.proofs.canvas.put.Reads as put-reads
 use Rattle.builder.proofs.canvas.span.Reads as span-reads
+use Rattle.planes.proofs.Whole.{one-left}
+use Rattle.planes.proofs.build.build_spilled.Reads as build-spilled-reads
 use Rattle.planes.proofs.build.build_plane.Reads as build-plane-reads
 use Rattle.planes.proofs.build.build_plane_by.Reads as build-plane-by-reads
 pub use Rattle.settings.proofs.Unique.{from-opt-unique, accepted-unique, pack-data-unique, super-height-unique, super-width-unique, read-word-unique, prepare-alike-unique, reduce-dim-unique, naturals-unique, number-unique, then-refuse-unique, is-fine-unique, natural-unique, bit-unique, to-bits-unique, from-bits-unique}
@@ -114,6 +119,15 @@ spill-need-unique κs x r s e f p q = determined itself p q
 pub build-tested-unique : (κs : Lfts 0) → OneOutcome (build-tested-reads.Post κs) (λ r e. r)
 build-tested-unique κs x r s e f p q = determined tested-known p q
 
+pub source-need-unique : (κs : Lfts 0) → OneOutcome (source-need-reads.Post κs) (λ r e. r)
+source-need-unique κs x r s e f p q = determined itself p q
+
+pub scratch-need-unique : (κs : Lfts 0) → OneOutcome (scratch-need-reads.Post κs) (λ r e. r)
+scratch-need-unique κs x r s e f p q = determined itself p q
+
+pub bad-pitch-unique : (κs : Lfts 0) → OneOutcome (bad-pitch-reads.Post κs) (λ r e. r)
+bad-pitch-unique κs x r s e f p q = determined itself p q
+
 pub is-fused-unique : (κs : Lfts 0) → OneOutcome (is-fused-reads.Post κs) (λ r e. r)
 is-fused-unique κs x r s e f p q = determined itself p q
 
@@ -122,6 +136,10 @@ put-unique κs x r s e f p q = determined itself p q
 
 pub span-unique : (κs : Lfts 1) → OneOutcome {O = (ℕ × ℕ) × List ℕ} (span-reads.Post κs) (λ r e. (ptr r, now r))
 span-unique κs x r s e f p q = rw (determined itself (p .0) (q .0), determined itself (p .2) (q .2))
+
+-- the frame; of spill and scratch nothing is said but their lengths (docs/EXCEPTIONS.md)
+pub build-spilled-unique : (κs : Lfts 4) → OneOutcome (build-spilled-reads.Post κs) (λ r e. now (e .1 .0))
+build-spilled-unique κs x r s e f p q = determined itself p q
 
 -- ---- the calls of `layouts` and `planes`
 pub level-regions-unique : (κs : Lfts 0) → OneOutcome (level-regions-reads.Post κs) (λ r e. r)
@@ -149,17 +167,7 @@ clear-margins-unique κs x r s e f p q = determined left-known {a = (r, now (e .
 
 -- the answer, the frame, and what spill and scratch are left as
 pub build-plane-by-unique : (κs : Lfts 4) → OneOutcome {O = Tested × List ℕ × List ℕ × List ℕ} (build-plane-by-reads.Post κs) (λ r e. (r, now (e .1 .0), now (e .1 .1 .0), now (e .1 .1 .1 .0)))
-build-plane-by-unique κs x r s e f p q =
-    let frame = determined left-known {a = (r, now (e .1 .0))} {b = (s, now (f .1 .0))} (p .0) (q .0) in
-    let spill = determined left-known {a = (r, now (e .1 .1 .0))} {b = (s, now (f .1 .1 .0))} (p .1) (q .1) in
-    let scratch = determined left-known {a = (r, now (e .1 .1 .1 .0))} {b = (s, now (f .1 .1 .1 .0))} (p .2) (q .2) in
-    rw (number frame, bytes frame, bytes spill, bytes scratch)
-  where
-    number : {a b : Tested × List ℕ} → a ≡ b → a .0 ≡ b .0
-    number = ap (λ (a : Tested × List ℕ). a .0)
-
-    bytes : {a b : Tested × List ℕ} → a ≡ b → a .1 ≡ b .1
-    bytes = ap (λ (a : Tested × List ℕ). a .1)
+build-plane-by-unique κs x r s e f p q = one-left p q
 
 pub build-plane-unique : (κs : Lfts 4) → OneOutcome {O = Tested × List ℕ × List ℕ × List ℕ} (build-plane-reads.Post κs) (λ r e. (r, now (e .0), now (e .1 .0), now (e .1 .1 .0)))
 build-plane-unique κs x r s e f p q = build-plane-by-unique κs (true, x) r s (true, e) (true, f) p q

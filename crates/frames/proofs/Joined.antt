@@ -1,4 +1,4 @@
--- A part built, and three of them, one after the other in any order: each leaves the others as they are, so all orders leave one frame. Assumes nothing.
+-- A part built, and the three, one after the other: each leaves the others as they are. Assumes nothing.
 use mathlib.Core.Path.{_≡_, refl, sym, ap, subst, _∙_}
 use mathlib.Core.Bool.{Bool, true, false, cond}
 use mathlib.Core.List.{List, [], _++_, append-assoc}
@@ -23,7 +23,7 @@ use Rattle.frames.proofs.Laid.{start-first, start-next, start-mono}
 after-next : (r : SuperOpts) (k : ℕ) (f : List ℕ) → drop (lengthOf r k) (drop (startOf r k) f) ≡ drop (startOf r (suc k)) f
 after-next r k f = drop-drop (lengthOf r k) (startOf r k) f ∙ ap (λ (n : ℕ). drop n f) (sym (total-suc (lengthOf r) k))
 
-part-long : (r : SuperOpts) (k : ℕ) (f : List ℕ) → startOf r (suc k) ≤ length f → length (partOf r k f) ≡ lengthOf r k
+pub part-long : (r : SuperOpts) (k : ℕ) (f : List ℕ) → startOf r (suc k) ≤ length f → length (partOf r k f) ≡ lengthOf r k
 part-long r k f le = length-take-le (lengthOf r k) (drop (startOf r k) f) (omega (arith, length-drop (startOf r k) f, total-suc (lengthOf r) k, le))
 
 -- a part between P and S
@@ -67,6 +67,14 @@ cut r f le =
       long = λ k small. part-long r k f (omega (arith, start-mono r (suc k) (omega (arith, small)), le));
     }
 
+pub cut-long : {r : SuperOpts} {f rest : List ℕ} {part : ℕ → List ℕ} → Cut r f part rest → joinedEnd r ≤ length f
+cut-long {r} {f} {rest} {part} c =
+    let whole = ap (λ (x : List ℕ). length x) (c .is) in
+    let y = length-append (part 0) (part 1 ++ (part 2 ++ rest)) in
+    let u = length-append (part 1) (part 2 ++ rest) in
+    let v = length-append (part 2) rest in
+    omega (arith, whole, y, u, v, c .long 0 (omega arith), c .long 1 (omega arith), c .long 2 (omega arith), start-first r, start-next r 0, start-next r 1, start-next r 2)
+
 -- ---- one of them built
 abbrev pub changed : ℕ → (List ℕ → List ℕ) → (ℕ → List ℕ) → ℕ → List ℕ
 changed k g part j = cond (eqb j k) (g (part j)) (part j)
@@ -102,7 +110,7 @@ module _ (r : SuperOpts) {f rest : List ℕ} {part : ℕ → List ℕ} (c : Cut 
         long = λ j small. changed-long k j (builtFrame (planeOf r k) s p) part kept ∙ c .long j small;
       }
 
--- ---- all three, in any order
+-- ---- all three
 -- as many bytes of each part are left
 abbrev Kept : SuperOpts → (ℕ → List ℕ) → (ℕ → ℕ) → List ℕ → Type 0
 Kept r src sp f = (k : ℕ) → k ≤ 2 → length (planeLeft r src sp f k) ≡ length (partOf r k f)
@@ -118,12 +126,3 @@ in-turn r n sp src F g eG eH eI =
     let y = built-cut r (cut r F (g .end)) 0 (omega arith) (src 0) (sp 0) (kept 0 (omega arith)) in
     let u = built-cut r y 1 (omega arith) (src 1) (sp 1) (kept 1 (omega arith)) in
     eI ∙ ap (partBuilt r 2 (src 2) (sp 2)) (eH ∙ ap (partBuilt r 1 (src 1) (sp 1)) eG) ∙ built-cut r u 2 (omega arith) (src 2) (sp 2) (kept 2 (omega arith)) .is
-
--- any of them first, any second, any last
-pub record Once (i j k : ℕ) : Type 0 where
-  pub first : i ≤ 2
-  pub second : j ≤ 2
-  pub last : k ≤ 2
-  pub one : i ≡ j → ⊥
-  pub two : i ≡ k → ⊥
-  pub three : j ≡ k → ⊥

@@ -1,7 +1,7 @@
 -- Document 02, order 3: the whole frame in one call, from three sources src 0, src 1 and src 2, whose rows are sp 0, sp 1 and sp 2 apart.
 -- First what there are three of; then the number; then what is left; last three calls in place of one.
 use mathlib.Core.Path.{_≡_}
-use Prim.Native.Nat.{ℕ, zero, suc}
+use Prim.Native.Nat.{ℕ, zero, suc, _≤_}
 use mathlib.Core.Bool.{Bool, _||_}
 use mathlib.Core.List.{List, _++_}
 use lib.Dec.{ltb}
@@ -73,3 +73,10 @@ pub record PlaneCall (r : SuperOpts) (src : ℕ → List ℕ) (sp : ℕ → ℕ)
   pub part : List ℕ
   pub leaves : BuildLeaves (planeOf r k) (src k) (sp k) (partOf r k (before .frame)) (before .spill) (before .scratch) n part (after .spill) (after .scratch)
   pub joined : after .frame ≡ take (startOf r k) (before .frame) ++ (part ++ drop (startOf r (suc k)) (before .frame))
+
+-- "in any order": each of the planes 0, 1 and 2 once
+pub record Once (i j k : ℕ) : Type 0 where
+  pub first : i ≤ 2
+  pub second : j ≤ 2
+  pub third : k ≤ 2
+  pub apart : (i ≡ j → ⊥) × (i ≡ k → ⊥) × (j ≡ k → ⊥)

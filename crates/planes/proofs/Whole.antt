@@ -13,10 +13,11 @@ use borrow.Author.Tests.{ltb-false, ne-eqb}
 use Rattle.settings.specs.Limits.{mostPitch}
 use Rattle.settings.specs.Numbers.{refuse, _then_, toNat}
 use Rattle.settings.specs.Check.{pelOf}
-use Rattle.settings.specs.Answers.{answer}
+use Rattle.settings.specs.declared.refusal.Tested.{Tested}
+use Rattle.settings.specs.Answers.{Answer, answer, tested}
 use Rattle.settings.proofs.Tests.{and-left, and-right, or-false-left, or-false-right}
 use Rattle.settings.proofs.Refusals.{then-first, then-rest, refuse-not}
-use Rattle.settings.proofs.Known.{given}
+use Rattle.settings.proofs.Known.{given, number-of, tested-known}
 use Rattle.filters.specs.declared.half_pel.Upscale.{Upscale}
 use Rattle.filters.specs.Halve.{chosen}
 use Rattle.filters.specs.Refine.{upscale}
@@ -181,3 +182,10 @@ frame-left fuse q src F G T Z sp kept zeros e =
 -- what was lent as l was of k bytes still, and was zeroed
 pub lent-zeroed : (n k : ℕ) (l z : List ℕ) → z ≡ replicate k 0 → k ≡ length l → n ≡ 0 → answer 0 z ≡ lentAfter n l
 lent-zeroed n k l z e kept none = ap (answer 0) (e ∙ ap (λ (m : ℕ). replicate m 0) kept) ∙ given n (replicate (length l) 0) l none
+
+-- one outcome: the number, and what frame, spill and scratch are left as
+pub one-left : {r s : Tested} {F S X G T Y : List ℕ} {f t x : Answer (List ℕ)} → (answer (tested r) F ≡ f) × (answer (tested r) S ≡ t) × (answer (tested r) X ≡ x) → (answer (tested s) G ≡ f) × (answer (tested s) T ≡ t) × (answer (tested s) Y ≡ x) → _≡_ {A = Tested × List ℕ × List ℕ × List ℕ} (r, F, S, X) (s, G, T, Y)
+one-left {r} {s} p q = rw (tested-known r s (number-of (p .0 ∙ sym (q .0))), bytes (p .0 ∙ sym (q .0)), bytes (p .1 ∙ sym (q .1)), bytes (p .2 ∙ sym (q .2)))
+  where
+    bytes : {m n : ℕ} {a b : List ℕ} → answer m a ≡ answer n b → a ≡ b
+    bytes = ap (λ (x : Answer (List ℕ)). x .value)

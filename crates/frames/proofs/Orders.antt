@@ -1,0 +1,106 @@
+-- Three calls of `build_plane`, each for a plane in its part, in any order of the planes: where the one call isn't refused none of them is, and they leave what it leaves. And a refusal changes nothing. Assumes nothing.
+use mathlib.Core.Path.{_≡_, refl, sym, ap, subst, _∙_}
+use mathlib.Core.Bool.{Bool, true, false, cond}
+use mathlib.Core.List.{List, _++_}
+use Prim.Native.Nat.{ℕ, suc, _≤_}
+use native.Mathlib.Omega.{arith}
+use lib.Dec.{eqb}
+use borrow.Author.Tests.{le-ltb, eqb-true, eqb-false, eq-eqb, ne-eqb}
+use lib.ListN.{length, take, drop, replicate, length-replicate}
+use Rattle.settings.specs.declared.super_opts.SuperOpts.{SuperOpts}
+use Rattle.settings.specs.Answers.{Answer, answer, ifDone}
+use Rattle.settings.proofs.Known.{given, number-of, value-given}
+use Rattle.layouts.specs.declared.layout.Layout.{Layout}
+use Rattle.layouts.specs.Layout.{widthAt}
+use Rattle.layouts.specs.Refusals.{badPitch, lentNo, buildNo}
+use Rattle.layouts.specs.Room.{Ready}
+use Rattle.layouts.proofs.Choices.{cond-yes, cond-no}
+use Rattle.planes.specs.Build.{builtFrame, planeNo}
+use Rattle.planes.proofs.Enough.{frame-long}
+use Rattle.frames.specs.Parts.{planeOf, lengthOf, startOf, joinedEnd}
+use Rattle.frames.specs.Build.{buildFrameNo, partOf, partBuilt, frameLeft, FrameLeaves, Lent, PlaneCall, Once}
+use Rattle.frames.proofs.Prepared.{Granted, granted, part-ready}
+use Rattle.frames.proofs.Laid.{laid-out, start-mono}
+use Rattle.frames.proofs.Joined.{Cut, cut, cut-long, changed, built-cut, part-long}
+
+-- ---- one call
+value-done : {A : Type 0} {n m : ℕ} {a : A} (b none : A) → answer n a ≡ ifDone m b none → m ≡ 0 → a ≡ b
+value-done {A} b none e z = ap (λ (v : Answer A). v .value) e ∙ ap (λ (m : ℕ). cond (eqb m 0) b none) z
+
+fine : (q : Layout) {n sp len spill scratch : ℕ} → badPitch sp (widthAt q 0) ≡ false → Ready q n sp len spill scratch → buildNo q n sp len spill scratch ≡ 0
+unfolding buildNo lentNo
+fine q pitch r = rw (r .layout, pitch, le-ltb _ _ (r .source), le-ltb _ _ (r .end), le-ltb _ _ (r .spills), le-ltb _ _ (r .room)) refl
+
+-- what there is between the calls: the frame in these parts, spill and scratch of as many bytes
+record Reached (r : SuperOpts) (part : ℕ → List ℕ) (rest : List ℕ) (s x : ℕ) (l : Lent) : Type 0 where
+  pub frame : Cut r (l .frame) part rest
+  pub spill : length (l .spill) ≡ s
+  pub scratch : length (l .scratch) ≡ x
+
+record Went (r : SuperOpts) (part : ℕ → List ℕ) (rest : List ℕ) (s x n : ℕ) (l : Lent) : Type 0 where
+  pub number : n ≡ 0
+  pub frame : Cut r (l .frame) part rest
+  pub spill : l .spill ≡ replicate s 0
+  pub scratch : l .scratch ≡ replicate x 0
+
+again : {r : SuperOpts} {part : ℕ → List ℕ} {rest : List ℕ} {s x n : ℕ} {l : Lent} → Went r part rest s x n l → Reached r part rest s x l
+again {s = s} {x = x} w = record { frame = w .frame; spill = ap (λ (z : List ℕ). length z) (w .spill) ∙ length-replicate s 0; scratch = ap (λ (z : List ℕ). length z) (w .scratch) ∙ length-replicate x 0 }
+
+module _ (r : SuperOpts) (src : ℕ → List ℕ) (sp : ℕ → ℕ) {len s x : ℕ} (g : Granted r (λ k. length (src k)) sp len s x) where
+  goes : (k : ℕ) → k ≤ 2 → {n : ℕ} {part : ℕ → List ℕ} {rest : List ℕ} {b a : Lent} → Reached r part rest s x b → PlaneCall r src sp k n b a → Went r (changed k (builtFrame (planeOf r k) (src k) (sp k)) part) rest s x n a
+  goes k le {n} {part} {rest} {b} {a} at c =
+      let q = planeOf r k in
+      let P = partOf r k (b .frame) in
+      let long : length P ≡ lengthOf r k = part-long r k (b .frame) (omega (arith, start-mono r (suc k) (omega (arith, le)), cut-long (at .frame))) in
+      let ready : Ready q (length (src k)) (sp k) (length P) (length (b .spill)) (length (b .scratch)) = rw (long, at .spill, at .scratch) (g .parts k le) in
+      let none : planeNo q (src k) (sp k) P (b .spill) (b .scratch) ≡ 0 = fine q (g .pitches k le) ready in
+      let whole : a .frame ≡ partBuilt r k (src k) (sp k) (b .frame) = c .joined ∙ ap (λ (z : List ℕ). take (startOf r k) (b .frame) ++ (z ++ drop (startOf r (suc k)) (b .frame))) (value-done (builtFrame q (src k) (sp k) P) P (c .leaves .0) none) in
+      let kept = frame-long q (src k) (part k) (part-ready (g .parts k le) refl (at .frame .long k le)) in
+      let made = built-cut r (at .frame) k le (src k) (sp k) kept in
+      record {
+        number = number-of (c .leaves .0) ∙ none;
+        frame = record { is = whole ∙ made .is; long = made .long };
+        spill = value-done (replicate (length (b .spill)) 0) (b .spill) (c .leaves .1) none ∙ ap (λ (z : ℕ). replicate z 0) (at .spill);
+        scratch = value-done (replicate (length (b .scratch)) 0) (b .scratch) (c .leaves .2) none ∙ ap (λ (z : ℕ). replicate z 0) (at .scratch);
+      }
+
+-- ---- all three
+module _ {i j k : ℕ} (o : Once i j k) (g : ℕ → List ℕ → List ℕ) (part : ℕ → List ℕ) where
+  abbrev thrice : ℕ → List ℕ
+  thrice = changed k (g k) (changed j (g j) (changed i (g i) part))
+
+  -- each part is changed once, by its own
+  each-once : (m : ℕ) → m ≤ 2 → thrice m ≡ g m (part m)
+  each-once m le = by-tests (eqb m i) (eqb m j) (eqb m k) refl refl refl
+    where
+      by-tests : (a b c : Bool) → eqb m i ≡ a → eqb m j ≡ b → eqb m k ≡ c → thrice m ≡ g m (part m)
+      by-tests true true c ei ej ek = absurd (o .apart .0 (sym (eqb-true m i ei) ∙ eqb-true m j ej))
+      by-tests true false true ei ej ek = absurd (o .apart .1 (sym (eqb-true m i ei) ∙ eqb-true m k ek))
+      by-tests false true true ei ej ek = absurd (o .apart .2 (sym (eqb-true m j ej) ∙ eqb-true m k ek))
+      by-tests true false false ei ej ek = rw (ek, ej, ei) (ap (λ (z : ℕ). g z (part m)) (sym (eqb-true m i ei)))
+      by-tests false true false ei ej ek = rw (ek, ej, ei) (ap (λ (z : ℕ). g z (part m)) (sym (eqb-true m j ej)))
+      by-tests false false true ei ej ek = rw (ek, ej, ei) (ap (λ (z : ℕ). g z (part m)) (sym (eqb-true m k ek)))
+      by-tests false false false ei ej ek = absurd (omega (arith, le, o .first, o .second, o .third, o .apart, eqb-false m i ei, eqb-false m j ej, eqb-false m k ek))
+
+done-answer : {A : Type 0} {n m : ℕ} {a b : A} → n ≡ 0 → m ≡ 0 → a ≡ b → (none : A) → answer n a ≡ ifDone m b none
+done-answer {a = a} {b = b} e z is none = ap (λ (k : ℕ). answer k a) e ∙ ap (answer 0) is ∙ given _ b none z
+
+pub any-order : (r : SuperOpts) (src : ℕ → List ℕ) (sp : ℕ → ℕ) {i j k : ℕ} → Once i j k → {l m n : ℕ} {a b c d : Lent} → buildFrameNo r (λ t. length (src t)) sp (length (a .frame)) (length (a .spill)) (length (a .scratch)) ≡ 0 → PlaneCall r src sp i l a b → PlaneCall r src sp j m b c → PlaneCall r src sp k n c d → (l ≡ 0) × (m ≡ 0) × FrameLeaves r src sp (a .frame) (a .spill) (a .scratch) n (d .frame) (d .spill) (d .scratch)
+unfolding frameLeft
+any-order r src sp {i} {j} {k} o {a = a} {d = d} e first second third =
+    let g = granted r (λ t. length (src t)) sp (length (a .frame)) (length (a .spill)) (length (a .scratch)) e in
+    let at = cut r (a .frame) (g .end) in
+    let one = goes r src sp g i (o .first) (record { frame = at; spill = refl; scratch = refl }) first in
+    let two = goes r src sp g j (o .second) (again one) second in
+    let three = goes r src sp g k (o .third) (again two) third in
+    let all = each-once o (λ t. builtFrame (planeOf r t) (src t) (sp t)) (λ t. partOf r t (a .frame)) in
+    let left : d .frame ≡ frameLeft r src sp (a .frame) = three .frame .is ∙ rw (all 0 (omega arith), all 1 (omega arith), all 2 (omega arith)) refl in
+    (one .number, two .number, (done-answer (three .number) e left (a .frame), done-answer (three .number) e (three .spill) (a .spill), done-answer (three .number) e (three .scratch) (a .scratch)))
+
+-- ---- "A refusal in any plane leaves all three untouched", and spill and scratch too
+value-refused : {A : Type 0} {n m : ℕ} {a : A} (b none : A) → answer n a ≡ ifDone m b none → (n ≡ 0 → ⊥) → a ≡ none
+value-refused {A} {m = m} b none e some = ap (λ (v : Answer A). v .value) e ∙ cond-no (eqb m 0) b none (ne-eqb m 0 (λ z. some (number-of e ∙ z)))
+
+pub refused-kept : (r : SuperOpts) (src : ℕ → List ℕ) (sp : ℕ → ℕ) {F S X F' S' X' : List ℕ} {n : ℕ} → FrameLeaves r src sp F S X n F' S' X' → (n ≡ 0 → ⊥) → (F' ≡ F) × (S' ≡ S) × (X' ≡ X)
+refused-kept r src sp {F} {S} {X} l some =
+    (value-refused (frameLeft r src sp F) F (l .0) some, value-refused (replicate (length S) 0) S (l .1) some, value-refused (replicate (length X) 0) X (l .2) some)
