@@ -8,8 +8,10 @@ use Rattle.answers.proofs.record.record_of.Reads as record-of-reads
 use Rattle.answers.proofs.record.numbers_of.Reads as numbers-of-reads
 use Rattle.answers.proofs.record.flag.Reads as flag-reads
 use Rattle.answers.proofs.told.told_numbers.Reads as told-numbers-reads
+use Rattle.answers.proofs.sizes.need_numbers.Reads as need-numbers-reads
 use Rattle.answers.proofs.room.number.Reads as number-reads
 use Rattle.answers.proofs.room.lowest.Reads as lowest-reads
+use Rattle.answers.proofs.room.no_room.Reads as no-room-reads
 use Rattle.answers.proofs.room.put_numbers.Reads as put-numbers-reads
 use Rattle.answers.proofs.room.put_word.Reads as put-word-reads
 use Rattle.answers.proofs.room.put_sizes.Reads as put-sizes-reads
@@ -30,11 +32,17 @@ flag-unique κs x r s e f p q = determined itself p q
 pub told-numbers-unique : (κs : Lfts 0) → OneOutcome (told-numbers-reads.Post κs) (λ r e. r)
 told-numbers-unique κs x r s e f p q = determined itself p q
 
+pub need-numbers-unique : (κs : Lfts 0) → OneOutcome (need-numbers-reads.Post κs) (λ r e. r)
+need-numbers-unique κs x r s e f p q = determined itself p q
+
 pub number-unique : (κs : Lfts 0) → OneOutcome (number-reads.Post κs) (λ r e. r)
 number-unique κs x r s e f p q = determined itself p q
 
 pub lowest-unique : (κs : Lfts 0) → OneOutcome (lowest-reads.Post κs) (λ r e. r)
 lowest-unique κs x r s e f p q = determined itself p q
+
+pub no-room-unique : (κs : Lfts 0) → OneOutcome (no-room-reads.Post κs) (λ r e. r)
+no-room-unique κs x r s e f p q = determined itself p q
 
 pub put-numbers-unique : (κs : Lfts 2) → OneOutcome (put-numbers-reads.Post κs) (λ r e. answer r (now (e .0)))
 put-numbers-unique κs x r s e f p q = determined itself p q

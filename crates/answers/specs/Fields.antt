@@ -15,6 +15,7 @@ use Rattle.settings.specs.declared.word.Description.{Description}
 use Rattle.settings.specs.Numbers.{isNat, bit}
 use Rattle.settings.specs.Check.{intOr}
 use Rattle.settings.specs.Answers.{noRecord}
+use Rattle.layouts.specs.declared.layout.Needs.{Needs}
 
 abbrev pub flag : Bool → ℤ
 flag b = pos (bit b)
@@ -108,3 +109,7 @@ toldNumbers d =
     ∷ flag (isTold (d .up))
     ∷ intOr (d .up) (pos 0)
     ∷ []
+
+-- ---- what a build needs
+abbrev pub needNumbers : Needs → List ℕ
+needNumbers n = n .spill ∷ n .scratch ∷ []

@@ -1,5 +1,5 @@
 -- The number of a call, and what it leaves in the slice that is lent for its answer. "The lowest number that applies is given, and none other"; "no refusal changes a lent byte".
-use mathlib.Core.Bool.{Bool, cond, _&&_}
+use mathlib.Core.Bool.{Bool, cond, _&&_, _||_}
 use mathlib.Core.List.{List}
 use Prim.Native.Nat.{ℕ}
 use lib.Dec.{leb, ltb}
@@ -13,3 +13,7 @@ lowest n short = cond (leb 1 n && ltb n 15) n (cond short 15 n)
 -- a call whose number but for that is n, and that tells values
 abbrev pub tells : {A : Type 0} → ℕ → List A → List A → Answer (List A)
 tells n values lent = ifDone (lowest n (ltb (length lent) (length values))) (written values lent) lent
+
+-- the two slices that a record which is read is told in, its numbers and the place after it: whether one is too short
+abbrev pub noRoom : ℕ → ℕ → Bool
+noRoom fields after = ltb fields 10 || ltb after 1

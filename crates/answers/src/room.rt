@@ -1,5 +1,5 @@
 // An answer put at the front of a lent slice, and its number: 15 where the slice is too short, which comes after 1 to 14 and before the rest.
-// First the numbers of a test and of a refusal; then numbers, a word and sizes put; last a layout's regions.
+// First the numbers of a test and of a refusal, and whether two slices are too short; then numbers, a word and sizes put; last a layout's regions.
 ghost use mathlib.Core.Path.{_≡_};
 ghost use mathlib.Core.List.{[], _∷_, _++_};
 ghost use Prim.Native.Nat.{_+_, _≤_};
@@ -7,7 +7,8 @@ ghost use lib.Dec.{ltb};
 ghost use lib.ListN.{length, take, drop};
 ghost use Rattle.settings.specs.Limits.{mostLevels};
 ghost use Rattle.settings.specs.Answers.{answer, number, tested};
-ghost use Rattle.answers.specs.Lent.{lowest, tells};
+ghost use Rattle.answers.specs.Lent.{lowest, noRoom, tells};
+use crate::record::FIELDS;
 use settings::limits::MOST_LEVELS;
 use settings::refusal::Refusal;
 use settings::refusal::Tested;
@@ -44,6 +45,13 @@ pub fn lowest(f: Refusal, len: usize, need: usize) -> u32
         return TOO_SHORT;
     }
     no
+}
+
+// A record that is read is told in two slices, its numbers and the place after it.
+pub fn no_room(fields: usize, after: usize) -> bool
+    ensures { λ r. ⌜ r ≡ noRoom fields after ⌝ }
+{
+    (fields < FIELDS) | (after < 1)
 }
 
 pub fn put_numbers(out: &mut [i32], values: &[i32]) -> u32

@@ -1,9 +1,9 @@
 -- The library's calls: the number of each, and what it leaves in the slices that are lent for its answer. "The lowest number that applies is given, and none other"; "no refusal changes a lent byte", but for the place that reading a longhand record tells with 16.
--- First the numbers of a layout, and of regions, needs and places; then the calls; last reading a longhand record.
+-- First the numbers of a layout, and of regions and places; then the calls; last reading a longhand record.
 use mathlib.Core.Bool.{cond, _||_}
 use mathlib.Core.List.{List, [], _∷_, _++_}
 use Prim.Native.Nat.{ℕ}
-use lib.Dec.{eqb, ltb}
+use lib.Dec.{eqb}
 use lib.IntN.{ℤ, pos}
 use lib.ListN.{length}
 use Rattle.settings.specs.declared.super_opts.Settings.{Settings}
@@ -14,13 +14,12 @@ use Rattle.settings.specs.Reading.{candidate, readNo, describe}
 use Rattle.settings.specs.Answers.{Answer, answer, ifDone, written}
 use Rattle.longhands.specs.Longhand.{longhandNo, longhandAnswer}
 use Rattle.layouts.specs.declared.layout.Layout.{Layout}
-use Rattle.layouts.specs.declared.layout.Needs.{Needs}
 use Rattle.layouts.specs.declared.rows.Run.{Run}
 use Rattle.layouts.specs.Layout.{levelsOf, regionOr, writtenEnd}
 use Rattle.layouts.specs.Refusals.{layoutNo, rowNo}
 use Rattle.layouts.specs.Answers.{Columns, columns, needsOf, runOf}
-use Rattle.answers.specs.Fields.{numbersOf, recordOf, toldNumbers}
-use Rattle.answers.specs.Lent.{lowest, tells}
+use Rattle.answers.specs.Fields.{numbersOf, recordOf, toldNumbers, needNumbers}
+use Rattle.answers.specs.Lent.{noRoom, lowest, tells}
 
 -- ---- the numbers
 abbrev pub layoutOf : List ℤ → ℕ → ℕ → ℕ → Layout
@@ -28,9 +27,6 @@ layoutOf l xs ys p = record { opts = recordOf l; «x_shift» = xs; «y_shift» =
 
 abbrev pub columnNumbers : Columns → List ℕ
 columnNumbers c = (c .count ∷ []) ++ c .offsets ++ c .widths ++ c .heights
-
-abbrev pub needNumbers : Needs → List ℕ
-needNumbers n = n .spill ∷ n .scratch ∷ []
 
 abbrev pub runNumbers : Run → List ℕ
 runNumbers r = r .offset ∷ r .length ∷ []
@@ -63,7 +59,7 @@ rowTells q len l k y = tells (rowNo q len l k y) (runNumbers (runOf q l k y))
 
 -- ---- a longhand record read: two slices are lent for the answer
 abbrev pub longhandReadNo : List ℕ → List ℤ → List ℕ → ℕ
-longhandReadNo l fields after = lowest (longhandNo l) (ltb (length fields) 10 || ltb (length after) 1)
+longhandReadNo l fields after = lowest (longhandNo l) (noRoom (length fields) (length after))
 
 -- what a call of number n leaves of the first: the record's numbers
 abbrev pub fieldsTells : ℕ → List ℕ → List ℤ → Answer (List ℤ)

@@ -4,10 +4,10 @@ ghost use Rattle.settings.specs.Answers.{answer};
 ghost use Rattle.longhands.specs.Longhand.{writeAnswer};
 ghost use Rattle.answers.specs.Fields.{recordOf};
 ghost use Rattle.exports.specs.Calls.{longhandReadNo, fieldsTells, placeTells};
-use answers::record::FIELDS;
 use answers::record::numbers_of;
 use answers::record::record_of;
 use answers::room::TOO_SHORT;
+use answers::room::no_room;
 use answers::room::number;
 use answers::room::put_numbers;
 use answers::room::put_sizes;
@@ -32,7 +32,7 @@ pub extern "C" fn sill_longhand_read(bytes: &[u8], fields: &mut [i32], after: &m
         (answer r (now (fields .exit)) ≡ fieldsTells (longhandReadNo (now (bytes .entry)) (now (fields .entry)) (now (after .entry))) (now (bytes .entry)) (now (fields .entry)))
         × (answer r (now (after .exit)) ≡ placeTells (longhandReadNo (now (bytes .entry)) (now (fields .entry)) (now (after .entry))) (now (bytes .entry)) (now (after .entry))) ⌝ }
 {
-    if (fields.len() < FIELDS) | (after.len() < 1) {
+    if no_room(fields.len(), after.len()) {
         return TOO_SHORT;
     }
     match read_longhand(bytes) {

@@ -10,6 +10,8 @@ use answers::room::lowest;
 use answers::room::number;
 use answers::room::put_columns;
 use answers::room::put_sizes;
+use answers::sizes::NEEDS;
+use answers::sizes::need_numbers;
 use layouts::layout::Ended;
 use layouts::layout::Layout;
 use layouts::layout::Needed;
@@ -83,8 +85,8 @@ pub extern "C" fn sill_needs(
     ensures { λ r. ⌜ answer r (now (needs .exit)) ≡ needsTells (layoutOf (now (fields .entry)) «x_shift» «y_shift» pitch) (now (needs .entry)) ⌝ }
 {
     match layout_of(fields, x_shift, y_shift, pitch).needs() {
-        Needed::Needs(n) => put_sizes(needs, &[n.spill, n.scratch]),
-        Needed::Refused(f) => lowest(f, needs.len(), 2),
+        Needed::Needs(n) => put_sizes(needs, &need_numbers(n)),
+        Needed::Refused(f) => lowest(f, needs.len(), NEEDS),
     }
 }
 

@@ -1,17 +1,25 @@
 -- `sill_longhand_read` meets its contract. Assumes nothing.
-use mathlib.Core.Path.{sym, ap, _∙_}
+use mathlib.Core.Path.{_≡_, sym, ap, _∙_}
+use mathlib.Core.Bool.{false}
 use mathlib.Core.List.{List}
 use lib.IntN.{ℤ}
+use lib.ListN.{length}
 use denote.Ref.{now}
 use borrow.Author.Needs.{needs}
 use Rattle.longhands.specs.Longhand.{readAs}
-use Rattle.answers.specs.Lent.{tells}
+use Rattle.answers.specs.Lent.{noRoom, tells}
 use Rattle.exports.proofs.Spelled.{left-short, left-record, left-unknown, left-refused}
 use Rattle.exports.proofs.longhand.sill_longhand_read.Statement.{statement}
 use Rattle.exports.proofs.longhand.sill_longhand_read.Tie as tie
 
+room : (c : tie.Else1) → noRoom (length (now (c .before .before .before .before .args .fields))) (length (now (c .before .before .before .before .args .after))) ≡ false
+room c = sym (c .before .no-room .ensures) ∙ c .if1 .left
+
+no-room-requires : tie.Need-no-room-requires
+no-room-requires c κs = search needs
+
 returns : tie.Need-returns
-returns c = let a = c .before .before .before .args in left-short (now (a .bytes)) (now (a .fields)) (now (a .after)) (c .if1 .taken)
+returns c = let a = c .before .before .before .before .args in left-short (now (a .bytes)) (now (a .fields)) (now (a .after)) (sym (c .before .no-room .ensures) ∙ c .if1 .taken)
 
 read-longhand-requires : tie.Need-read-longhand-requires
 read-longhand-requires c κs = search needs
@@ -58,9 +66,9 @@ same-length-2 c = search needs
 returns-2 : tie.Need-returns-2
 returns-2 c =
     let m = c .before .before .before .before .before .before .before .before .before .before .before .before .before in
-    let a = c .before .before .before .before .before .before .before .before .before .before .before .before .before .before .before .before .before .args in
+    let a = c .before .before .before .before .before .before .before .before .before .before .before .before .before .before .before .before .before .before .args in
     let g = c .before .before .before .before .before .before .before .before .before .before .before .read .given in
-    left-record (now (a .bytes)) (now (a .fields)) (now (a .after)) (c .before .before .before .before .before .before .before .before .before .before .before .before .before .before .if1 .left) (g .0 .0) (sym (ap readAs (g .1)) ∙ m .read-longhand .ensures) (c .before .before .before .before .before .before .put-numbers .ensures ∙ ap (λ (v : List ℤ). tells 0 v (now (a .fields))) (c .before .before .before .before .before .before .before .before .numbers-of .ensures)) (c .before .before .put-sizes .ensures)
+    left-record (now (a .bytes)) (now (a .fields)) (now (a .after)) (room (c .before .before .before .before .before .before .before .before .before .before .before .before .before .before)) (g .0 .0) (sym (ap readAs (g .1)) ∙ m .read-longhand .ensures) (c .before .before .before .before .before .before .put-numbers .ensures ∙ ap (λ (v : List ℤ). tells 0 v (now (a .fields))) (c .before .before .before .before .before .before .before .before .numbers-of .ensures)) (c .before .before .put-sizes .ensures)
 
 same-length-3 : tie.Need-same-length-3
 same-length-3 c = search needs
@@ -68,21 +76,22 @@ same-length-3 c = search needs
 returns-3 : tie.Need-returns-3
 returns-3 c =
     let m = c .before .before .before .before .before .before .before .before in
-    let a = c .before .before .before .before .before .before .before .before .before .before .before .before .args in
+    let a = c .before .before .before .before .before .before .before .before .before .before .before .before .before .args in
     let g = c .before .before .before .before .before .before .place .given in
-    left-unknown (now (a .bytes)) (now (a .fields)) (now (a .after)) (c .before .before .before .before .before .before .before .before .before .if1 .left) (g .0 .0) (sym (ap readAs (g .1)) ∙ m .read-longhand .ensures) (c .before .before .put-sizes2 .ensures)
+    left-unknown (now (a .bytes)) (now (a .fields)) (now (a .after)) (room (c .before .before .before .before .before .before .before .before .before)) (g .0 .0) (sym (ap readAs (g .1)) ∙ m .read-longhand .ensures) (c .before .before .put-sizes2 .ensures)
 
 returns-4 : tie.Need-returns-4
 returns-4 c =
     let m = c .before .before .before .before in
-    let a = c .before .before .before .before .before .before .before .before .args in
+    let a = c .before .before .before .before .before .before .before .before .before .args in
     let g = c .before .before .f .given in
-    left-refused (now (a .bytes)) (now (a .fields)) (now (a .after)) (c .before .before .before .before .before .if1 .left) (g .0 .0) (sym (ap readAs (g .1)) ∙ m .read-longhand .ensures) (c .number .ensures)
+    left-refused (now (a .bytes)) (now (a .fields)) (now (a .after)) (room (c .before .before .before .before .before)) (g .0 .0) (sym (ap readAs (g .1)) ∙ m .read-longhand .ensures) (c .number .ensures)
 
 pub sill-longhand-read-spec : {M : Type 1} → statement M
 sill-longhand-read-spec =
     tie.close
     (tie.spec
+    no-room-requires
     returns
     read-longhand-requires
     enum-known-read

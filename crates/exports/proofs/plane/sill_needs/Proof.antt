@@ -5,7 +5,8 @@ use borrow.Author.Needs.{needs}
 use Rattle.settings.proofs.Known.{number-of}
 use Rattle.layouts.specs.declared.layout.Layout.{Layout}
 use Rattle.layouts.specs.Answers.{needed, needsOf, noNeeds}
-use Rattle.exports.specs.Calls.{needNumbers, needsTells}
+use Rattle.answers.specs.Fields.{needNumbers}
+use Rattle.exports.specs.Calls.{needsTells}
 use Rattle.answers.proofs.Telling.{tell-refused, tell-given}
 use Rattle.exports.proofs.plane.sill_needs.Statement.{statement}
 use Rattle.exports.proofs.plane.sill_needs.Tie as tie
@@ -18,6 +19,9 @@ needs-requires c κs = search needs
 
 enum-known-n : tie.Need-enum-known-n
 enum-known-n c = search needs
+
+need-numbers-requires : tie.Need-need-numbers-requires
+need-numbers-requires c κs = search needs
 
 slice-aggregate-put-sizes : tie.Need-slice-aggregate-put-sizes
 slice-aggregate-put-sizes c = search needs
@@ -36,10 +40,10 @@ same-length c = search needs
 
 returns : tie.Need-returns
 returns c =
-    let m = c .before .before .before .before .before .before .before .before in
+    let m = c .before .before .before .before .before .before .before .before .before in
     let q = m .before .layout-of .result in
     let a = m .before .before .before .args in
-    tell-given needNumbers (now (a .needs)) (needsOf q) noNeeds (sym (ap needed (c .before .before .before .before .before .before .n .given .1)) ∙ m .needs .ensures) refl (c .before .before .put-sizes .ensures)
+    tell-given needNumbers (now (a .needs)) (needsOf q) noNeeds (sym (ap needed (c .before .before .before .before .before .before .before .n .given .1)) ∙ m .needs .ensures) (c .before .before .before .before .need-numbers .ensures) (c .before .before .put-sizes .ensures)
     ∙ ap (λ (l : Layout). needsTells l (now (a .needs))) (m .before .layout-of .ensures)
 
 returns-2 : tie.Need-returns-2
@@ -57,6 +61,7 @@ sill-needs-spec =
     layout-of-requires
     needs-requires
     enum-known-n
+    need-numbers-requires
     slice-aggregate-put-sizes
     put-sizes-requires
     enum-known-f
