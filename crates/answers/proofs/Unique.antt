@@ -9,6 +9,7 @@ use Rattle.answers.proofs.record.numbers_of.Reads as numbers-of-reads
 use Rattle.answers.proofs.record.flag.Reads as flag-reads
 use Rattle.answers.proofs.told.told_numbers.Reads as told-numbers-reads
 use Rattle.answers.proofs.sizes.need_numbers.Reads as need-numbers-reads
+use Rattle.answers.proofs.sizes.parts_numbers.Reads as parts-numbers-reads
 use Rattle.answers.proofs.room.number.Reads as number-reads
 use Rattle.answers.proofs.room.lowest.Reads as lowest-reads
 use Rattle.answers.proofs.room.no_room.Reads as no-room-reads
@@ -34,6 +35,9 @@ told-numbers-unique κs x r s e f p q = determined itself p q
 
 pub need-numbers-unique : (κs : Lfts 0) → OneOutcome (need-numbers-reads.Post κs) (λ r e. r)
 need-numbers-unique κs x r s e f p q = determined itself p q
+
+pub parts-numbers-unique : (κs : Lfts 0) → OneOutcome (parts-numbers-reads.Post κs) (λ r e. r)
+parts-numbers-unique κs x r s e f p q = determined itself p q
 
 pub number-unique : (κs : Lfts 0) → OneOutcome (number-reads.Post κs) (λ r e. r)
 number-unique κs x r s e f p q = determined itself p q

@@ -1,6 +1,6 @@
--- The numbers that a call takes or tells, and what they stand for: settings, a record, and what a word tells.
+-- The numbers that a call takes or tells, and what they stand for: settings, a record, what a word tells, what a build needs, and where the parts of a frame lie.
 use mathlib.Core.Bool.{Bool, true, false, cond, not, _&&_, _||_}
-use mathlib.Core.List.{List, [], _∷_}
+use mathlib.Core.List.{List, [], _∷_, _++_}
 use Prim.Native.Nat.{ℕ, _/_, _%_, _^_}
 use lib.Dec.{eqb}
 use lib.IntN.{ℤ, pos}
@@ -16,6 +16,8 @@ use Rattle.settings.specs.Numbers.{isNat, bit}
 use Rattle.settings.specs.Check.{intOr}
 use Rattle.settings.specs.Answers.{noRecord}
 use Rattle.layouts.specs.declared.layout.Needs.{Needs}
+use Rattle.frames.specs.declared.parts.Part.{Part}
+use Rattle.frames.specs.declared.parts.Parts.{Parts}
 
 abbrev pub flag : Bool → ℤ
 flag b = pos (bit b)
@@ -110,6 +112,12 @@ toldNumbers d =
     ∷ intOr (d .up) (pos 0)
     ∷ []
 
--- ---- what a build needs
+-- ---- what a build needs, and where the parts of a frame lie: of Y, U and V, then of all three
 abbrev pub needNumbers : Needs → List ℕ
 needNumbers n = n .spill ∷ n .scratch ∷ []
+
+abbrev pub partNumbers : Part → List ℕ
+partNumbers p = p .start ∷ p .pitch ∷ p .length ∷ []
+
+abbrev pub partsNumbers : Parts → List ℕ
+partsNumbers p = partNumbers (p .y) ++ partNumbers (p .u) ++ partNumbers (p .v) ++ (p .length ∷ []) ++ needNumbers (p .needs)

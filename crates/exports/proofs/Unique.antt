@@ -20,6 +20,9 @@ use Rattle.exports.proofs.plane.sill_needs.Reads as sill-needs-reads
 use Rattle.exports.proofs.plane.sill_clear_margins.Reads as sill-clear-margins-reads
 use Rattle.exports.proofs.plane.sill_row.Reads as sill-row-reads
 use Rattle.exports.proofs.plane.sill_build_plane.Reads as sill-build-plane-reads
+use Rattle.exports.proofs.frame.sill_frame_parts.Reads as sill-frame-parts-reads
+use Rattle.exports.proofs.frame.sill_frame_row.Reads as sill-frame-row-reads
+use Rattle.exports.proofs.frame.sill_build_frame.Reads as sill-build-frame-reads
 
 pub sill-check-unique : (κs : Lfts 1) → OneOutcome (sill-check-reads.Post κs) (λ r e. answer r (now (e .1 .1 .1 .1 .1 .1 .1 .1 .1 .1 .0)))
 sill-check-unique κs x r s e f p q = determined itself p q
@@ -64,3 +67,13 @@ sill-row-unique κs x r s e f p q = determined itself p q
 -- with the frame, with what spill and with what scratch is left as
 pub sill-build-plane-unique : (κs : Lfts 5) → OneOutcome {O = Answer (List ℕ) × Answer (List ℕ) × Answer (List ℕ)} (sill-build-plane-reads.Post κs) (λ r e. (answer r (now (e .0)), answer r (now (e .1 .0)), answer r (now (e .1 .1 .0))))
 sill-build-plane-unique κs x r s e f p q = rw (determined itself (p .0) (q .0), determined itself (p .1) (q .1), determined itself (p .2) (q .2))
+
+pub sill-frame-parts-unique : (κs : Lfts 2) → OneOutcome (sill-frame-parts-reads.Post κs) (λ r e. answer r (now (e .1 .0)))
+sill-frame-parts-unique κs x r s e f p q = determined itself p q
+
+pub sill-frame-row-unique : (κs : Lfts 2) → OneOutcome (sill-frame-row-reads.Post κs) (λ r e. answer r (now (e .1 .1 .1 .1 .1 .1 .0)))
+sill-frame-row-unique κs x r s e f p q = determined itself p q
+
+-- as `sill-build-plane-unique`
+pub sill-build-frame-unique : (κs : Lfts 7) → OneOutcome {O = Answer (List ℕ) × Answer (List ℕ) × Answer (List ℕ)} (sill-build-frame-reads.Post κs) (λ r e. (answer r (now (e .0)), answer r (now (e .1 .0)), answer r (now (e .1 .1 .0))))
+sill-build-frame-unique κs x r s e f p q = rw (determined itself (p .0) (q .0), determined itself (p .1) (q .1), determined itself (p .2) (q .2))

@@ -18,7 +18,8 @@ use Rattle.layouts.specs.declared.rows.Run.{Run}
 use Rattle.layouts.specs.Layout.{levelsOf, regionOr, writtenEnd}
 use Rattle.layouts.specs.Refusals.{layoutNo, rowNo}
 use Rattle.layouts.specs.Answers.{Columns, columns, needsOf, runOf}
-use Rattle.answers.specs.Fields.{numbersOf, recordOf, toldNumbers, needNumbers}
+use Rattle.frames.specs.Parts.{planesNo, partsOf, rowInNo, runInOf}
+use Rattle.answers.specs.Fields.{numbersOf, recordOf, toldNumbers, needNumbers, partsNumbers}
 use Rattle.answers.specs.Lent.{noRoom, lowest, tells}
 
 -- ---- the numbers
@@ -56,6 +57,13 @@ needsTells q = tells (layoutNo q) (needNumbers (needsOf q))
 -- row y of plane k of level l, in a frame of len bytes
 abbrev pub rowTells : Layout → ℕ → ℕ → ℕ → ℕ → List ℕ → Answer (List ℕ)
 rowTells q len l k y = tells (rowNo q len l k y) (runNumbers (runOf q l k y))
+
+abbrev pub partsTells : SuperOpts → List ℕ → Answer (List ℕ)
+partsTells r = tells (planesNo r) (partsNumbers (partsOf r))
+
+-- row y of plane j of level l of part k
+abbrev pub rowInTells : SuperOpts → ℕ → ℕ → ℕ → ℕ → ℕ → List ℕ → Answer (List ℕ)
+rowInTells r len k l j y = tells (rowInNo r len k l j y) (runNumbers (runInOf r k l j y))
 
 -- ---- a longhand record read: two slices are lent for the answer
 abbrev pub longhandReadNo : List ℕ → List ℤ → List ℕ → ℕ
