@@ -1,4 +1,4 @@
-/* superframe's command line. In order: its help; how the program ends; numbers and flags; where pictures are written; the whole line. */
+/* superframe's command line. In order: its help; how the program ends; numbers and flags; where files are written; the whole line. */
 #define _GNU_SOURCE /* vasprintf */
 #include <errno.h>
 #include <inttypes.h>
@@ -13,9 +13,14 @@
 #include "sillcandle.h"
 
 static const char help[] =
-    "superframe PICTURE.pgm [FLAG VALUE]..\n"
-    "Builds the super frame of an 8-bit binary PGM picture: the levels that motion search reads, with their sub-pel planes.\n"
+    "superframe PICTURE [FLAG VALUE]..\n"
+    "Builds the super frame of a picture: the levels that motion search reads, with their sub-pel planes.\n"
     "Prints the word that a report stores, the settings and the layout.\n"
+    "\n"
+    "PICTURE is one of:\n"
+    "  an 8-bit binary PGM   one plane, which is built\n"
+    "  a Y4M, 8-bit 4:2:0    as ffmpeg and mpv write it. Y, U and V of its first frame are built in one; others aren't read.\n"
+    "                        Where a side is odd, the last column or row of U and V has no part in a super frame.\n"
     "\n"
     "Settings; one that isn't given has its default:\n"
     "  --pel N        1, 2 or 4: level 0 is kept as N * N planes (default 2)\n"
@@ -25,19 +30,20 @@ static const char help[] =
     "  --full yes|no  whether level 0 is kept (default yes)\n"
     "  --rc yes|no    a mark in the word, without effect on the build (default no)\n"
     "  --lean yes|no  likewise, and the super frame is said to be 2 high (default no)\n"
-    "Layout:\n"
+    "Layout, for a PGM alone: the planes of a Y4M have pitches and shifts of their own:\n"
     "  --pitch N      bytes from row to row (default: a row, raised to a multiple of 16)\n"
     "  --shift-x N    1: PICTURE is a plane of half the width of its picture, as chroma is (default 0)\n"
     "  --shift-y N    1: the same for the height (default 0)\n"
     "                 With a shift, the picture is taken to have twice PICTURE's width or height.\n"
     "Output:\n"
-    "  -o OUT.pgm        the built frame; its rows are the pitch\n"
-    "  --view SHEET.pgm  a contact sheet: level 0's planes side by side, the smaller levels below\n"
-    "                    A picture is made beside its place and put there when whole. Where a run makes none, as after a\n"
+    "  -o OUT            the built frame: of a PGM, a PGM whose rows are the pitch; of a Y4M, the bytes of Y, U and V joined,\n"
+    "                    with no header: what is printed says where each begins\n"
+    "  --view SHEET.pgm  a contact sheet: level 0's planes side by side, the smaller levels below; below Y's, U's and V's\n"
+    "                    A file is made beside its place and put there when whole. Where a run makes none, as after a\n"
     "                    refusal, an older file in its place is removed: it would pass for this run's.\n"
     "  --help, -h        this text\n"
     "\n"
-    "Exit status: 0 built; 1 refused, with document 01's number; 2 the command line or a file is not usable.\n";
+    "Exit status: 0 built; 1 refused, with its number; 2 the command line or a file is not usable.\n";
 
 void unusable(const char *text, ...) {
     va_list args;
@@ -91,6 +97,7 @@ static int flag_of(const char *text) {
 
 static void one_flag(options *o, int flag, const char *value) {
     const char *name = flags[flag];
+    if (flag >= PITCH && flag <= SHIFT_Y) o->layout = name;
     switch (flag) {
     case PITCH: o->pitch = (uint64_t)number(name, value, 0, INT64_MAX), o->pitch_given = 1; break;
     case SHIFT_X: o->x = (uint64_t)number(name, value, 0, UINT32_MAX); break;
@@ -140,7 +147,7 @@ options command_line(int argc, char **argv) {
         if (++k == argc) unusable("%s: its value is missing; --help lists the flags", flags[flag]);
         one_flag(&o, flag, argv[k]);
     }
-    if (!o.in) unusable("which picture? usage: superframe PICTURE.pgm [FLAG VALUE]..; --help says more");
+    if (!o.in) unusable("which picture? usage: superframe PICTURE [FLAG VALUE]..; --help says more");
     struct stat picture;
     if (stat(o.in, &picture)) unusable("%s: %s", o.in, strerror(errno));
     settle(&o.out, flags[OUT], &picture), settle(&o.view, flags[VIEW], &picture);

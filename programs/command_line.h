@@ -15,18 +15,19 @@ enum { REFUSED = 1, UNUSABLE = 2, USABLE = 3 };
 #define ENDS
 #endif
 
-/* A picture to be written. Its name is as given, NULL where none is asked for; its place is where that leads through links, NULL where it is no regular file: a device or a pipe is written as it stands. */
+/* A file to be written. Its name is as given, NULL where none is asked for; its place is where that leads through links, NULL where it is no regular file: a device or a pipe is written as it stands. */
 typedef struct {
     const char *name;
     char *place;
 } output;
 
+/* layout is a flag of the layout that was given, NULL where none was: not every picture takes one. */
 typedef struct {
     uint32_t given;
     int32_t set[7];
     uint64_t pitch, x, y;
     int pitch_given;
-    const char *in;
+    const char *in, *layout;
     output out, view;
 } options;
 
