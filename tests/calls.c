@@ -20,24 +20,34 @@ extern void rust_build(uint8_t *frame, size_t length, const int32_t record[10], 
 static void differs(const void *ours, const void *rusts, size_t bytes, const char *what) {
     if (memcmp(ours, rusts, bytes)) failed("the rules' %s isn't the Rust's", what);
 }
+
+/* A plane whose frame is these bytes and no others. */
+static void build_alone(uint8_t *to, size_t length, const layout *l, const uint8_t *from, size_t count, size_t src_pitch) {
+    rust_build(to, length, l->record, l->x, l->y, l->pitch, from, count, src_pitch);
+}
 #else
 #define BESIDE(...)
+
+/* Without the Rust a frame of three planes is held to the library's builds of one. */
+static void build_alone(uint8_t *to, size_t length, const layout *l, const uint8_t *from, size_t count, size_t src_pitch) {
+    static uint8_t own_spill[16], own_scratch[16 * (32768 + 16)];
+    uint32_t no = sill_build_plane(to, length, own_spill, sizeof own_spill, own_scratch, sizeof own_scratch, l->record, l->count, l->x, l->y, l->pitch, from, count, src_pitch);
+    if (no) failed("a plane alone: %" PRIu32, no);
+}
 #endif
 
-const char *const names[CALLS] = {"sill_check", "sill_accepted", "sill_pack_data", "sill_read_word", "sill_prepare_alike", "sill_longhand_write", "sill_longhand_read", "sill_super_sizes", "sill_level_regions", "sill_written_end", "sill_needs", "sill_clear_margins", "sill_row", "sill_build_plane"};
-uint64_t met[CALLS][23];
+const char *const names[CALLS] = {"sill_check", "sill_accepted", "sill_pack_data", "sill_read_word", "sill_prepare_alike", "sill_longhand_write", "sill_longhand_read", "sill_super_sizes", "sill_level_regions", "sill_written_end", "sill_needs", "sill_clear_margins", "sill_row", "sill_build_plane", "sill_frame_parts", "sill_frame_row", "sill_build_frame"};
+uint64_t met[CALLS][NUMBERS];
 
-static lent record, answer, after, bytes, frame, spill, scratch, src;
-#ifdef RUST
+static lent record, answer, after, bytes, frame, spill, scratch, src[3];
 static uint8_t *want;
-#endif
-const uint8_t *source_given;
+const uint8_t *source_given[3];
 
 void calls_open(void) {
-    lent *all[] = {&record, &answer, &after, &bytes, &frame, &spill, &scratch, &src};
-    static const char *const called[] = {"record", "answer", "place after", "bytes", "frame", "spill", "scratch", "source"};
-    for (int k = 0; k < 8; k++) lent_open(all[k], called[k]);
-    BESIDE(if (!(want = malloc(MOST))) failed("no memory");)
+    lent *all[] = {&record, &answer, &after, &bytes, &frame, &spill, &scratch, &src[0], &src[1], &src[2]};
+    static const char *const called[] = {"record", "answer", "place after", "bytes", "frame", "spill", "scratch", "source", "source of U", "source of V"};
+    for (int k = 0; k < 10; k++) lent_open(all[k], called[k]);
+    if (!(want = malloc(MOST))) failed("no memory");
 }
 
 const uint8_t *built(void) { return frame.at; }
@@ -56,7 +66,7 @@ static uint32_t answered(int call, uint32_t got, uint32_t no, const void *value,
     return got;
 }
 
-/* "After 1 to 14, before 16 to 22": the lowest number that applies. */
+/* After 1 to 14, before 16 to 24: the lowest number that applies. */
 static uint32_t lowest(uint32_t no, size_t room, size_t need) { return room < need && (!no || no > 15) ? 15 : no; }
 
 static void tell_layout(int call, const layout *l) {
@@ -253,25 +263,83 @@ uint32_t try_row(const layout *l, size_t length, uint32_t level, size_t plane, s
     return got;
 }
 
+static const uint8_t *lend_source(int k, size_t count) { return source_given[k] ? lend_copy(&src[k], source_given[k], count) : lend(&src[k], count); }
+
+/* What a build from so many sources leaves, but for the frame's own bytes where it was finished. */
+static void left(uint32_t no, int sources) {
+    lent_kept(&record);
+    for (int k = 0; k < sources; k++) lent_kept(&src[k]);
+    if (no) lent_kept(&frame), lent_kept(&spill), lent_kept(&scratch);
+    else lent_zero(&spill), lent_zero(&scratch), lent_guarded(&frame);
+}
+
 uint32_t try_build(const layout *l, const lengths *n) {
     tell_layout(BUILD, l);
     tell_more(", frame %zu, spill %zu, scratch %zu, source %zu of pitch %zu", n->frame, n->spill, n->scratch, n->src, n->src_pitch);
     uint32_t no = rule_build(l, n);
     const int32_t *r = lend_record(l);
     uint8_t *f = lend(&frame, n->frame), *sp = lend(&spill, n->spill), *sc = lend(&scratch, n->scratch);
-    const uint8_t *from = source_given ? lend_copy(&src, source_given, n->src) : lend(&src, n->src);
+    const uint8_t *from = lend_source(0, n->src);
     uint32_t got = numbered(BUILD, sill_build_plane(f, n->frame, sp, n->spill, sc, n->scratch, r, l->count, l->x, l->y, l->pitch, from, n->src, n->src_pitch), no);
-    lent_kept(&record);
-    lent_kept(&src);
-    if (no) {
-        lent_kept(&frame), lent_kept(&spill), lent_kept(&scratch);
-        return got;
-    }
-    lent_zero(&spill), lent_zero(&scratch), lent_guarded(&frame);
-    BESIDE(
+    left(no, 1);
+    BESIDE(if (!no) {
         memcpy(want, frame.before, n->frame);
-        rust_build(want, n->frame, l->record, l->x, l->y, l->pitch, src.before, n->src, n->src_pitch);
+        build_alone(want, n->frame, l, src[0].before, n->src, n->src_pitch);
         lent_is(&frame, want);
-    )
+    })
+    return got;
+}
+
+uint32_t try_parts(const layout *l, size_t room) {
+    size_t parts[12];
+    tell_room(PARTS, l, room);
+    uint32_t no = rule_three(l);
+    if (!no) rule_parts(l, parts);
+    BESIDE(for (int k = 0; !no && k < 3; k++) {
+        layout part = rule_part(l, k);
+        if (rust_end(part.record, part.x, part.y, part.pitch) != parts[3 * k + 2]) failed("the rules' length of part %d isn't the Rust's", k);
+    })
+    const int32_t *r = lend_record(l);
+    size_t *to = lend(&answer, room * sizeof *to);
+    uint32_t got = answered(PARTS, sill_frame_parts(r, l->count, to, room), lowest(no, room, 12), parts, sizeof parts);
+    lent_kept(&record);
+    return got;
+}
+
+uint32_t try_frame_row(const layout *l, size_t length, uint32_t of, uint32_t level, size_t plane, size_t y, size_t room) {
+    size_t place[2];
+    tell_room(FRAME_ROW, l, room);
+    tell_more(", frame %zu, part %u, level %u, plane %zu, y %zu", length, of, level, plane, y);
+    uint32_t no = rule_frame_row(l, length, of, level, plane, y, place);
+    const int32_t *r = lend_record(l);
+    size_t *to = lend(&answer, room * sizeof *to);
+    uint32_t got = answered(FRAME_ROW, sill_frame_row(length, r, l->count, of, level, plane, y, to, room), lowest(no, room, 2), place, sizeof place);
+    lent_kept(&record);
+    return got;
+}
+
+/* Three builds, each of which has its part of the frame and no more; bytes past the third stay. */
+static void three_built(const layout *l, const frame_lengths *n) {
+    size_t parts[12];
+    rule_parts(l, parts);
+    memcpy(want, frame.before, n->frame);
+    for (int k = 0; k < 3; k++) {
+        layout part = rule_part(l, k);
+        build_alone(want + parts[3 * k], parts[3 * k + 2], &part, src[k].before, n->src[k], n->src_pitch[k]);
+    }
+    lent_is(&frame, want);
+}
+
+uint32_t try_build_frame(const layout *l, const frame_lengths *n) {
+    tell_layout(BUILD_FRAME, l);
+    tell_more(", frame %zu, spill %zu, scratch %zu", n->frame, n->spill, n->scratch);
+    for (int k = 0; k < 3; k++) tell_more(", %c %zu of pitch %zu", "YUV"[k], n->src[k], n->src_pitch[k]);
+    uint32_t no = rule_build_frame(l, n);
+    const int32_t *r = lend_record(l);
+    uint8_t *f = lend(&frame, n->frame), *sp = lend(&spill, n->spill), *sc = lend(&scratch, n->scratch);
+    const uint8_t *y = lend_source(0, n->src[0]), *u = lend_source(1, n->src[1]), *v = lend_source(2, n->src[2]);
+    uint32_t got = numbered(BUILD_FRAME, sill_build_frame(f, n->frame, sp, n->spill, sc, n->scratch, r, l->count, y, n->src[0], n->src_pitch[0], u, n->src[1], n->src_pitch[1], v, n->src[2], n->src_pitch[2]), no);
+    left(no, 3);
+    if (!no) three_built(l, n);
     return got;
 }

@@ -1,7 +1,7 @@
 /* The library as a C program meets it: every exported call on good and bad inputs, every slice between guard bytes and unmapped pages.
      door SEED COUNT     COUNT random calls after the fixed ones
-   Parts: rules.c what the documents say; lent.c slices; calls.c each call held to both; fixed.c, longhand.c, random.c the cases; rust.rs
-   the Rust's doors. */
+   Parts: rules.c what the documents say; lent.c slices; calls.c each call held to both; fixed.c, longhand.c, planes.c, random.c the cases;
+   rust.rs the Rust's doors. */
 #include <inttypes.h>
 #include <stdio.h>
 #include <stdlib.h>
@@ -11,7 +11,7 @@
 #ifdef RUST
 #define HELD "numbers and answers are those of the rules and, where it has them, the Rust; bytes are the Rust's"
 #else
-#define HELD "numbers and answers are those of the rules; built bytes weren't compared"
+#define HELD "numbers and answers are those of the rules; three planes are as each is built alone, and built bytes weren't compared with others"
 #endif
 
 int main(int argc, char **argv) {

@@ -19,7 +19,12 @@ typedef struct {
     size_t frame, spill, scratch, src, src_pitch;
 } lengths;
 
-/* rules.c: document 01's table and sizes, and document 02's longhand record. A number, or 0 and the answer. */
+/* What a build of three planes is lent beside its record: sources of Y, U and V. */
+typedef struct {
+    size_t frame, spill, scratch, src[3], src_pitch[3];
+} frame_lengths;
+
+/* rules.c: document 01's table and sizes, and document 02's longhand record and three planes. A number, or 0 and the answer. */
 uint32_t rule_check(uint32_t given, const int32_t set[7], int32_t width, int32_t height, int32_t record[10]);
 uint32_t rule_record(const int32_t *record, size_t count);
 uint64_t rule_word(const int32_t record[10]);
@@ -36,6 +41,12 @@ uint32_t rule_frame(const layout *l, size_t frame);
 uint32_t rule_row(const layout *l, size_t frame, uint32_t level, size_t plane, size_t y, size_t place[2]);
 size_t rule_source(const layout *l, size_t src_pitch);
 uint32_t rule_build(const layout *l, const lengths *n);
+/* Of three planes: the layout of one, by the record alone; 6, 23 and 24; what a row and a build give. */
+layout rule_part(const layout *of, int part);
+uint32_t rule_three(const layout *l);
+void rule_parts(const layout *l, size_t parts[12]);
+uint32_t rule_frame_row(const layout *l, size_t frame, uint32_t of, uint32_t level, size_t plane, size_t y, size_t place[2]);
+uint32_t rule_build_frame(const layout *l, const frame_lengths *n);
 
 /* lent.c: random numbers, and slices between guard bytes and unmapped pages. */
 uint64_t next(void);
@@ -66,9 +77,10 @@ void tell_more(const char *what, ...) __attribute__((format(printf, 1, 2)));
 void watch(void);
 
 /* calls.c: one call each, held to the rules and the Rust. The number that the call gave, or of two words whether they are alike. */
-enum { CHECK, ACCEPTED, PACK, READ, ALIKE, LONGHAND_WRITE, LONGHAND_READ, SIZES, REGIONS, END, NEEDS, CLEAR, ROW, BUILD, CALLS };
+enum { CHECK, ACCEPTED, PACK, READ, ALIKE, LONGHAND_WRITE, LONGHAND_READ, SIZES, REGIONS, END, NEEDS, CLEAR, ROW, BUILD, PARTS, FRAME_ROW, BUILD_FRAME, CALLS };
+enum { NUMBERS = 25 };
 extern const char *const names[CALLS];
-extern uint64_t met[CALLS][23];
+extern uint64_t met[CALLS][NUMBERS];
 void calls_open(void);
 uint32_t try_check(uint32_t given, const int32_t set[7], int32_t width, int32_t height, size_t room);
 uint32_t try_accepted(const layout *l);
@@ -84,14 +96,20 @@ uint32_t try_needs(const layout *l, size_t room);
 uint32_t try_clear(const layout *l, size_t frame);
 uint32_t try_row(const layout *l, size_t frame, uint32_t level, size_t plane, size_t y, size_t room);
 uint32_t try_build(const layout *l, const lengths *n);
-/* The source's bytes, or NULL for random ones; and what the last build left in the frame. */
-extern const uint8_t *source_given;
+uint32_t try_parts(const layout *l, size_t room);
+uint32_t try_frame_row(const layout *l, size_t frame, uint32_t of, uint32_t level, size_t plane, size_t y, size_t room);
+uint32_t try_build_frame(const layout *l, const frame_lengths *n);
+/* The sources' bytes, or NULL for random ones, one plane's the first; and what the last build left in the frame. */
+extern const uint8_t *source_given[3];
 const uint8_t *built(void);
 
-/* fixed.c, longhand.c, random.c */
+/* fixed.c, longhand.c, planes.c, random.c */
 void is(uint32_t got, uint32_t number);
+layout laid(int32_t pel, int32_t gpu, int32_t up, int32_t full, int32_t width, int32_t height, size_t pitch);
 void fixed_cases(void);
 void longhand_cases(void);
+void plane_cases(void);
+void vast_planes(uint8_t *to, const void *held, size_t over);
 void random_calls(uint64_t count);
 
 #endif

@@ -1,5 +1,5 @@
 /* Cases whose numbers and answers are told here by hand, good and bad ones of each call; most values are document 01's own.
-   In order: settings and records; words; sizes and layouts; rows; frames and bytes; vast slices; all of them, with those of longhand.c. */
+   In order: settings and records; words; sizes and layouts; rows; frames and bytes; vast slices; all of them, with those of longhand.c and planes.c. */
 #include <stdio.h>
 #include <string.h>
 #include <sys/mman.h>
@@ -14,7 +14,7 @@ void is(uint32_t got, uint32_t number) {
     if (got != number) failed("fixed case: %u, not %u", got, number);
 }
 
-static layout laid(int32_t pel, int32_t gpu, int32_t up, int32_t full, int32_t width, int32_t height, size_t pitch) {
+layout laid(int32_t pel, int32_t gpu, int32_t up, int32_t full, int32_t width, int32_t height, size_t pitch) {
     layout l = {.count = 10, .pitch = pitch};
     int32_t set[7] = {pel, gpu, 4, up, full, 0, 0};
     if (rule_check(ALL, set, width, height, l.record)) failed("fixed case: no record");
@@ -61,10 +61,12 @@ static void records(void) {
 /* Every call that takes a record refuses each of these with 6, whatever else is wrong. */
 static void refused(const layout *l) {
     lengths none = {0};
+    frame_lengths no_planes = {0};
     is(try_accepted(l), 6), is(try_pack(l, 0), 6), is(try_pack(l, 1), 6), is(try_sizes(l, 0), 6), is(try_sizes(l, 2), 6);
     is(try_longhand_write(l, 0), 6), is(try_longhand_write(l, 20), 6), is(try_longhand_write(l, 21), 6);
     is(try_regions(l, 0), 6), is(try_regions(l, 40), 6), is(try_end(l, 1), 6), is(try_needs(l, 2), 6), is(try_needs(l, 0), 6);
     is(try_clear(l, 0), 6), is(try_clear(l, 100), 6), is(try_row(l, 0, 0, 0, 0, 0), 6), is(try_row(l, SIZE_MAX, 0, 0, 0, 2), 6), is(try_build(l, &none), 6);
+    is(try_parts(l, 0), 6), is(try_parts(l, 12), 6), is(try_frame_row(l, 0, 0, 0, 0, 0, 0), 6), is(try_frame_row(l, SIZE_MAX, 0, 0, 0, 0, 2), 6), is(try_build_frame(l, &no_planes), 6);
 }
 
 static void bad_records(void) {
@@ -218,9 +220,9 @@ static void bytes(void) {
     for (int y = 0; y < 8; y++) memcpy(source + 8 * y, row, 8);
     layout l = laid(1, 1, 0, 1, 8, 8, 8);
     lengths n = {8 * 8 + 4 * 8, 16, 16 * 24, 64, 8};
-    source_given = source;
+    source_given[0] = source;
     is(try_build(&l, &n), 0);
-    source_given = NULL;
+    source_given[0] = NULL;
     if (memcmp(built(), source, 64)) failed("fixed case: level 0 isn't the source");
     for (int y = 0; y < 4; y++) if (memcmp(built() + 64 + 8 * y, halved, 4)) failed("fixed case: row %d of level 1 isn't 100, 66, 55, 75", y);
 }
@@ -298,18 +300,19 @@ static void vast(void) {
     memcpy(long_src, src, 3072);
     is(sill_build_plane(to, over + 5, spill, 16, scratch, 1280, l.record, 10, 0, 0, 64, long_src, over + 7, 64), 0);
     if (memcmp(to, frame, 14976)) failed("another frame");
+    vast_planes(to, held, over);
     munmap(to, room), munmap(held, room);
 }
 
 void fixed_cases(void) {
     for (where = AT_START; where < SPOTS; where++) {
-        checks(), records(), bad_records(), words(), alike(), sizes(), layouts(), rows(), largest(), frames(), bytes();
+        checks(), records(), bad_records(), words(), alike(), sizes(), layouts(), rows(), largest(), frames(), bytes(), plane_cases();
     }
     longhand_cases();
     where = AMIDST;
     vast();
     uint64_t count = 0;
-    for (int k = 0; k < CALLS; k++) for (int n = 0; n < 23; n++) count += met[k][n];
+    for (int k = 0; k < CALLS; k++) for (int n = 0; n < NUMBERS; n++) count += met[k][n];
     printf("door: %llu fixed calls, slices at the start, amid and at the end of their rooms: as told\n", (unsigned long long)count);
     memset(met, 0, sizeof met);
 }

@@ -107,7 +107,7 @@ static void guards(const lent *l, uint8_t *ends[4]) {
     ends[3] = last - end > GUARD ? end + GUARD : last;
 }
 
-static void *laid(lent *l, size_t bytes) {
+static void *placed(lent *l, size_t bytes) {
     if (bytes > MOST) failed("%s: %zu bytes are more than the test has room for", l->name, bytes);
     l->bytes = bytes;
     l->at = where == AT_START ? l->room : where == AT_END ? l->room + room_size - bytes : l->room + 2 * GUARD;
@@ -122,7 +122,7 @@ static void *laid(lent *l, size_t bytes) {
 
 /* Lends so many bytes, random ones; sometimes 0 and 255 alone, where sums are held. */
 void *lend(lent *l, size_t bytes) {
-    void *p = laid(l, bytes);
+    void *p = placed(l, bytes);
     int ends = below(4) == 0;
     for (size_t k = 0; k < bytes; k += 8) {
         uint64_t eight = ends ? (next() & 0x0101010101010101) * 255 : next();
@@ -133,7 +133,7 @@ void *lend(lent *l, size_t bytes) {
 }
 
 void *lend_copy(lent *l, const void *of, size_t bytes) {
-    void *p = laid(l, bytes);
+    void *p = placed(l, bytes);
     if (bytes) memcpy(l->before, of, bytes), memcpy(l->at, of, bytes);
     return p;
 }

@@ -171,36 +171,99 @@ static uint64_t one_of(uint64_t count) {
     }
 }
 
+/* A row's level, plane and place, mostly of a row that a good layout has; and how long its frame is said to be. */
+typedef struct {
+    uint32_t level;
+    size_t plane, y, frame;
+} looked_up;
+
+static looked_up look_up(const layout *l, int good, size_t need) {
+    size_t regions[40] = {1}, most = 1, rows = 6;
+    if (good) rule_regions(l, regions);
+    looked_up at = {.level = (uint32_t)one_of(regions[0])};
+    if (good && at.level < regions[0]) {
+        rows = regions[27 + at.level];
+        if (at.level == 0) most = (size_t)(l->record[0] * l->record[0]);
+    }
+    at.plane = one_of(most), at.y = one_of(rows), at.frame = below(3) ? need : below(2) ? need - 1 : wild();
+    return at;
+}
+
 static void row(void) {
     layout l = some();
-    size_t need = below(300), regions[40] = {1}, most = 1, rows = 6;
     int good = !rule_layout(&l);
-    if (good) rule_regions(&l, regions), need = rule_end(&l);
-    uint32_t level = (uint32_t)one_of(regions[0]);
-    if (good && level < regions[0]) {
-        rows = regions[27 + level];
-        if (level == 0) most = (size_t)(l.record[0] * l.record[0]);
-    }
-    size_t plane = one_of(most), y = one_of(rows), frame = below(3) ? need : below(2) ? need - 1 : wild(), held = room(2);
-    try_row(&l, frame, level, plane, y, held);
+    looked_up at = look_up(&l, good, good ? rule_end(&l) : below(300));
+    try_row(&l, at.frame, at.level, at.plane, at.y, room(2));
 }
+
+/* A source pitch that fits a good layout, mostly a narrow one. */
+static size_t source_pitch(const layout *l) {
+    size_t least = (size_t)(l->record[8] >> l->x);
+    if (!least) least = 1;
+    int64_t more = (int64_t)below(40);
+    return least + (size_t)PICK(0, 0, 0, 1, 2, 3, more);
+}
+
+/* Lengths as the test has room for them, and where they are spoilt, about half of them near their needs. */
+static void lengthen(size_t *const of[], int count, int spoilt) {
+    for (int k = 0; k < count; k++) if (*of[k] > MOST || (spoilt && below(2))) *of[k] = near(*of[k]);
+}
+
+static void spoil_pitch(size_t *pitch) { *pitch = below(2) ? *pitch - 1 - below(3) : wild(); }
 
 static void build(void) {
     layout l = some();
     size_t needs[2] = {16, 512}, end = below(300), source = below(300), src_pitch = below(40);
     if (!rule_layout(&l)) {
-        src_pitch = (size_t)(l.record[8] >> l.x);
-        if (!src_pitch) src_pitch = 1;
-        int64_t more = (int64_t)below(40);
-        src_pitch += (size_t)PICK(0, 0, 0, 1, 2, 3, more);
+        src_pitch = source_pitch(&l);
         rule_needs(&l, needs), end = rule_end(&l), source = rule_source(&l, src_pitch);
     }
     int spoilt = below(3) == 0;
     lengths n = {end, needs[0], needs[1], source, src_pitch};
-    size_t *of[] = {&n.frame, &n.spill, &n.scratch, &n.src};
-    for (int k = 0; k < 4; k++) if (*of[k] > MOST || (spoilt && below(2))) *of[k] = near(*of[k]);
-    if (spoilt && below(4) == 0) n.src_pitch = below(2) ? n.src_pitch - 1 - below(3) : wild();
+    lengthen((size_t *[]){&n.frame, &n.spill, &n.scratch, &n.src}, 4, spoilt);
+    if (spoilt && below(4) == 0) spoil_pitch(&n.src_pitch);
     try_build(&l, &n);
+}
+
+/* Where the parts lie, or some numbers where a record has none. */
+static int parted(const layout *l, size_t parts[12]) {
+    int good = !rule_three(l);
+    if (good) rule_parts(l, parts);
+    else parts[9] = below(300), parts[10] = 16, parts[11] = 512;
+    return good;
+}
+
+static void frame_row(void) {
+    layout l = some();
+    size_t parts[12];
+    int good = parted(&l, parts);
+    uint32_t of = (uint32_t)one_of(3);
+    layout part = rule_part(&l, of == 1 || of == 2);
+    looked_up at = look_up(&part, good, parts[9]);
+    try_frame_row(&l, at.frame, of, at.level, at.plane, at.y, room(2));
+}
+
+static void build_frame(void) {
+    layout l = some();
+    size_t parts[12];
+    frame_lengths n = {0};
+    int good = parted(&l, parts);
+    for (int k = 0; k < 3; k++) {
+        layout part = rule_part(&l, k);
+        n.src_pitch[k] = good ? source_pitch(&part) : below(40);
+        n.src[k] = good ? rule_source(&part, n.src_pitch[k]) : below(300);
+    }
+    n.frame = parts[9], n.spill = parts[10], n.scratch = parts[11];
+    int spoilt = below(3) == 0;
+    /* Where all are spoilt a source mostly hides the rest: half of the time it is one length alone. */
+    int alone = spoilt && below(2);
+    size_t *of[] = {&n.frame, &n.spill, &n.scratch, &n.src[0], &n.src[1], &n.src[2]};
+    if (alone) lengthen(of + below(6), 1, 1);
+    lengthen(of, 6, spoilt && !alone);
+    if (spoilt && below(4) == 0) spoil_pitch(&n.src_pitch[below(3)]);
+    /* Bytes past the third part. */
+    if (!spoilt && below(3) == 0 && n.frame + 80 <= MOST) n.frame += below(80);
+    try_build_frame(&l, &n);
 }
 
 static void one(int call) {
@@ -220,6 +283,9 @@ static void one(int call) {
     case NEEDS: try_needs(&l, room(2)); break;
     case CLEAR: clear(); break;
     case ROW: row(); break;
+    case PARTS: try_parts(&l, room(12)); break;
+    case FRAME_ROW: frame_row(); break;
+    case BUILD_FRAME: build_frame(); break;
     default: build();
     }
 }
@@ -228,19 +294,19 @@ static void one(int call) {
 static const uint32_t can[CALLS] = {
     [CHECK] = 0x803f, [ACCEPTED] = 0x41, [PACK] = 0x8041, [READ] = 0x708001, [ALIKE] = 3, [LONGHAND_WRITE] = 0x8041,
     [LONGHAND_READ] = 0x78001, [SIZES] = 0x8041, [REGIONS] = 0x81c1, [END] = 0x81c1, [NEEDS] = 0x81c1, [CLEAR] = 0x9c1, [ROW] = 0x889c1,
-    [BUILD] = 0x3fc1,
+    [BUILD] = 0x3fc1, [PARTS] = 0x1808041, [FRAME_ROW] = 0x1888841, [BUILD_FRAME] = 0x1803e41,
 };
 
 /* From so many calls on, each of those numbers has to be met. */
 enum { ENOUGH = 100000 };
 
 void random_calls(uint64_t count) {
-    /* Five of eighteen calls are builds. */
-    for (uint64_t k = 0; k < count; k++) one(k % 18 < CALLS ? (int)(k % 18) : BUILD);
+    /* Nine of 24 calls are builds: five of one plane, four of three. */
+    for (uint64_t k = 0; k < count; k++) one(k % 24 < CALLS ? (int)(k % 24) : k % 24 < CALLS + 4 ? BUILD : BUILD_FRAME);
     tell("numbers met");
     for (int call = 0; call < CALLS; call++) {
         printf("door: %s:", names[call]);
-        for (int n = 0; n < 23; n++) {
+        for (int n = 0; n < NUMBERS; n++) {
             if (met[call][n]) printf(" %d: %llu", n, (unsigned long long)met[call][n]);
             int may = can[call] >> n & 1;
             if (met[call][n] ? !may : may && count >= ENOUGH) failed("%s: number %d was met %llu times", names[call], n, (unsigned long long)met[call][n]);

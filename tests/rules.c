@@ -1,5 +1,6 @@
 /* Documents 01 and 02 in plain C, written from the documents alone and not from either code. In order: settings, words, document 02's
-   longhand record, sizes, the table of numbers. What bytes a build writes isn't here: that is the Rust's to say. */
+   longhand record, sizes, the table of numbers, document 02's three planes. What bytes a build writes isn't here: that is the Rust's to
+   say. */
 #include <string.h>
 
 #include "door.h"
@@ -202,14 +203,78 @@ size_t rule_source(const layout *l, size_t src_pitch) {
     return w && h ? (h - 1) * src_pitch + w : 0;
 }
 
+static int is_9(const layout *l, size_t src_pitch) {
+    size_t least = width_at(l, 0);
+    return src_pitch < (least > 1 ? least : 1) || src_pitch > MOST_PITCH;
+}
+
+static int is_10(const layout *l, size_t src, size_t src_pitch) { return src < rule_source(l, src_pitch); }
+
+static uint32_t lent_tested(size_t frame, size_t spill, size_t scratch, size_t end, const size_t needs[2]) {
+    if (frame < end) return 11;
+    if (spill < needs[0]) return 12;
+    return scratch < needs[1] ? 13 : 0;
+}
+
 uint32_t rule_build(const layout *l, const lengths *n) {
     uint32_t no = rule_layout(l);
     if (no) return no;
-    size_t least = width_at(l, 0), needs[2];
+    size_t needs[2];
     rule_needs(l, needs);
-    if (n->src_pitch < (least > 1 ? least : 1) || n->src_pitch > MOST_PITCH) return 9;
-    if (n->src < rule_source(l, n->src_pitch)) return 10;
-    if (n->frame < rule_end(l)) return 11;
-    if (n->spill < needs[0]) return 12;
-    return n->scratch < needs[1] ? 13 : 0;
+    if (is_9(l, n->src_pitch)) return 9;
+    if (is_10(l, n->src, n->src_pitch)) return 10;
+    return lent_tested(n->frame, n->spill, n->scratch, rule_end(l), needs);
+}
+
+/* "Shifts 1,1 for chroma, pitch W for Y and W / 2 for U and V". */
+layout rule_part(const layout *of, int part) {
+    layout l = *of;
+    l.x = l.y = part != 0;
+    l.pitch = (size_t)l.record[WIDTH] / (part ? 2 : 1);
+    return l;
+}
+
+/* "23 a side below 2, 24 not full, after 6"; then nothing is wrong with the layout of a part. */
+uint32_t rule_three(const layout *l) {
+    if (rule_record(l->record, l->count)) return 6;
+    if (l->record[WIDTH] < 2 || l->record[HEIGHT] < 2) return 23;
+    return l->record[FULL] ? 0 : 24;
+}
+
+/* "Each plane as long as its written end, joined in that order"; "spill and scratch needs are luma's". */
+void rule_parts(const layout *l, size_t parts[12]) {
+    layout luma = rule_part(l, 0);
+    size_t start = 0;
+    for (int k = 0; k < 3; k++) {
+        layout part = rule_part(l, k);
+        parts[3 * k] = start, parts[3 * k + 1] = part.pitch, parts[3 * k + 2] = rule_end(&part);
+        start += parts[3 * k + 2];
+    }
+    parts[9] = start;
+    rule_needs(&luma, parts + 10);
+}
+
+uint32_t rule_frame_row(const layout *l, size_t frame, uint32_t of, uint32_t level, size_t plane, size_t y, size_t place[2]) {
+    uint32_t no = rule_three(l);
+    if (no) return no;
+    size_t parts[12];
+    rule_parts(l, parts);
+    if (frame < parts[9]) return 11;
+    if (of > 2) return 19;
+    layout part = rule_part(l, (int)of);
+    no = rule_row(&part, parts[3 * of + 2], level, plane, y, place);
+    if (!no) place[0] += parts[3 * of];
+    return no;
+}
+
+/* "Then 9 to 13 as before, Y then U then V for each number, 11 over the joined ends." */
+uint32_t rule_build_frame(const layout *l, const frame_lengths *n) {
+    uint32_t no = rule_three(l);
+    if (no) return no;
+    size_t parts[12];
+    rule_parts(l, parts);
+    layout of[3] = {rule_part(l, 0), rule_part(l, 1), rule_part(l, 2)};
+    for (int k = 0; k < 3; k++) if (is_9(&of[k], n->src_pitch[k])) return 9;
+    for (int k = 0; k < 3; k++) if (is_10(&of[k], n->src[k], n->src_pitch[k])) return 10;
+    return lent_tested(n->frame, n->spill, n->scratch, parts[9], parts + 10);
 }
