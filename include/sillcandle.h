@@ -2,7 +2,7 @@
    Link with target/staticlib/libsillcandle.a, which scripts/library builds.
 
    In order: what holds for every call; numbers, counts and places; the bits of `given`; calls: settings and words, longhand records,
-   sizes and layouts, frames.
+   sizes and layouts, one plane, three planes.
 
    Numbers. Each call but sill_prepare_alike returns 0 where it is done, else the number that says why not: those of document 01's
    table, and document 02's 15 to 18, 23 and 24, which the table leaves free. Where more than one applies the lowest is given, and none
@@ -10,7 +10,7 @@
 
    Slices. A slice is a pointer and then a count of elements, and the pointer is aligned for its type, as C's own arrays are.
    Where the count is 0 the pointer isn't looked at and may be NULL: a slice that is missing is a slice of length 0, and gets the
-   number of one that is too short. Two slices of a call must not overlap.
+   number of one that is too short. A slice that isn't const must not overlap another of the call.
 
    Answers. They go to the front of a slice that is lent for them. If it has fewer elements than the answer the number is
    SILL_NO_ROOM; elements past the answer stay as they are. A call that doesn't return 0 changes nothing that it was lent, but for the
@@ -43,6 +43,11 @@
    Layouts. A plane of the picture is laid out by a record, two shifts and a pitch: its level k has (width >> x_shift) by
    (height >> y_shift) bytes, width and height being level k's. A shift is 0 for a plane of the picture's own size and 1 for one of
    half its width or height. Rows of a frame begin pitch bytes apart.
+
+   Three planes. A picture of Y, U and V has one frame of three parts, Y's, U's and V's, which follow each other from its first byte on.
+   Y is laid out by shifts 0, 0 and the picture's width as pitch, U and V by shifts 1, 1 and floor(width / 2); a part is as long as its
+   plane's written end. So no pitch of the frame is asked for: those that are handed in are the sources'. A record has such a frame if it
+   is full and both sides are at least 2.
 
    No call allocates, keeps a pointer, prints, or has a state: calls with slices of their own may run at the same time. */
 #ifndef SILLCANDLE_H
@@ -220,25 +225,26 @@ uint32_t sill_build_plane(uint8_t *frame, size_t frame_count, uint8_t *spill, si
                           const int32_t *record, size_t record_count, uint32_t x_shift, uint32_t y_shift, size_t pitch,
                           const uint8_t *src, size_t src_count, size_t src_pitch);
 
-/* Where the planes of a frame of three lie. Writes SILL_COUNT_PARTS numbers: for Y, U and V where its part of the frame starts, its
-   pitch and its length; then how long the frame has to be, and how many bytes sill_build_frame has to be lent of spill and scratch.
-   U and V have floor(width / 2) by floor(height / 2) samples.
+/* Where the parts of a frame of three planes lie. Writes SILL_COUNT_PARTS numbers: for Y, for U and for V where the part starts, its pitch
+   and its length; then how many bytes sill_build_frame has to be lent: of frame, of spill, of scratch.
    Numbers: 6 SILL_NO_RECORD, 15 SILL_NO_ROOM, 23 SILL_NO_CHROMA, 24 SILL_NO_FULL. */
 uint32_t sill_frame_parts(const int32_t *record, size_t record_count, size_t *parts, size_t parts_count);
 
-/* Where a row of one of the three planes lies in a frame of frame_length bytes. part is SILL_Y, SILL_U or SILL_V; level, plane and y are
-   those of sill_row. Writes SILL_COUNT_PLACE numbers: offset, from the frame's first byte on, and length.
-   Numbers, in the order in which they are looked for: 6 SILL_NO_RECORD, 23 SILL_NO_CHROMA, 24 SILL_NO_FULL, 11 SILL_BAD_FRAME (shorter than
-   the three parts together), 19 SILL_NO_ROW; where `place` is too short, 15 SILL_NO_ROOM stands in place of 19, 23 and 24. */
+/* Where a row of a part lies in a frame of frame_length bytes. part is SILL_Y, SILL_U or SILL_V; level, plane and y are those of sill_row.
+   Writes SILL_COUNT_PLACE numbers: offset, from the frame's first byte on, and length.
+   Numbers, in the order in which they are looked for: 6 SILL_NO_RECORD, 23 SILL_NO_CHROMA, 24 SILL_NO_FULL; 11 SILL_BAD_FRAME, shorter
+   than the three parts together; 19 SILL_NO_ROW, also for another part. Where `place` is too short, 15 SILL_NO_ROOM stands in place of
+   0, 19, 23 and 24. */
 uint32_t sill_frame_row(size_t frame_length, const int32_t *record, size_t record_count, uint32_t part, uint32_t level, size_t plane,
                         size_t y, size_t *place, size_t place_count);
 
-/* Builds all three planes of a picture in one frame: Y, U and V, each from a source and with a source pitch of its own, each in its part
-   of the frame (sill_frame_parts) as sill_build_plane would by shifts 0, 0 and 1, 1. Everything is tested before the first byte is
-   stored. Bytes past the third part stay. What is said at sill_build_plane of spill, scratch and earlier bytes holds here.
+/* Builds the three planes of a picture, each in its part of the frame as sill_build_plane would in a frame that is that part alone. The
+   rows of y begin y_pitch bytes apart, those of u and v u_pitch and v_pitch. The sources may share bytes, as where a row of U and one of
+   V lie side by side. Everything is tested before the first byte is stored: a refusal leaves all three planes as they were. Bytes
+   past the third part stay. What is said at sill_build_plane of spill, scratch and earlier bytes holds here.
    Numbers, in the order in which they are looked for: 6 SILL_NO_RECORD, 23 SILL_NO_CHROMA, 24 SILL_NO_FULL; 9 SILL_BAD_SOURCE_PITCH of
    Y, U or V; 10 SILL_BAD_SOURCE of Y, U or V; 11 SILL_BAD_FRAME, shorter than the three parts together; 12 SILL_BAD_SPILL;
-   13 SILL_BAD_SCRATCH. */
+   13 SILL_BAD_SCRATCH, by the pitch of Y. */
 uint32_t sill_build_frame(uint8_t *frame, size_t frame_count, uint8_t *spill, size_t spill_count, uint8_t *scratch, size_t scratch_count,
                           const int32_t *record, size_t record_count, const uint8_t *y, size_t y_count, size_t y_pitch,
                           const uint8_t *u, size_t u_count, size_t u_pitch, const uint8_t *v, size_t v_count, size_t v_pitch);
