@@ -1,6 +1,6 @@
 /* Three planes in one call: document 02's order 3. Every call is held to rules.c and the Rust, and the numbers and places that can be told by
    hand are told here.
-   In order: pictures; refusals, alone and by twos; sources of U and V; missing slices and the smallest sides; bytes by hand; parts and
+   In order: pictures; refusals, alone and by twos; sources; the smallest sides, missing slices and odd sides; bytes by hand; parts and
    rows; vast slices; all of them. */
 #include <string.h>
 
@@ -106,6 +106,21 @@ static void sources(void) {
     p.n.src[2] = 7 * p.n.src_pitch[2] + 12, gives(&p, 0);
 }
 
+/* Sources are only read, so they may share bytes: rows of U and V side by side in one buffer, 24x16. */
+static void shared(void) {
+    enum { FRAME = 4 * 16 * 24 + (8 + 4) * 24 + 2 * (4 * 8 * 12 + (4 + 2) * 12), SCRATCH = 16 * (24 + 16), LENGTH = 7 * 24 + 12 };
+    static uint8_t together[FRAME], alone[FRAME], spill[16], scratch[SCRATCH], y[16 * 24], chroma[8 * 24], u[8 * 12], v[8 * 12];
+    layout l = laid(2, 0, 2, 1, 24, 16, 0);
+    for (size_t k = 0; k < sizeof y; k++) y[k] = (uint8_t)next();
+    for (size_t k = 0; k < sizeof chroma; k++) chroma[k] = (uint8_t)next();
+    for (size_t k = 0; k < 8; k++) memcpy(u + 12 * k, chroma + 24 * k, 12), memcpy(v + 12 * k, chroma + 24 * k + 12, 12);
+    memset(together, 0, FRAME), memset(alone, 0, FRAME);
+    tell("sill_build_frame, sources that share bytes");
+    is(sill_build_frame(together, FRAME, spill, 16, scratch, SCRATCH, l.record, 10, y, 384, 24, chroma, LENGTH, 24, chroma + 12, LENGTH, 24), 0);
+    is(sill_build_frame(alone, FRAME, spill, 16, scratch, SCRATCH, l.record, 10, y, 384, 24, u, 96, 12, v, 96, 12), 0);
+    if (memcmp(together, alone, FRAME)) failed("fixed case: another frame");
+}
+
 /* With a side below 4 there is no level: no byte of the frame is needed or written, and all else applies. */
 static void smallest(void) {
     for (int32_t width = 1; width <= 5; width++) for (int32_t height = 1; height <= 5; height++) {
@@ -133,7 +148,7 @@ static void smallest(void) {
     for (int k = 0; k < 16; k++) nothing.count = 0, gives(&nothing, 6), nothing.count = 10, gives(&nothing, 9);
 }
 
-/* Odd sides, every pel and every way to refine; U and V have the smaller half. */
+/* Odd sides, and the smallest that have a level, by every pel and every way to refine. */
 static void odd(void) {
     static const int32_t sides[][2] = {{5, 4}, {4, 4}, {7, 9}, {17, 5}, {19, 33}, {35, 21}, {64, 37}};
     for (size_t k = 0; k < sizeof sides / sizeof *sides; k++) for (int32_t pel = 1; pel <= 4; pel *= 2) for (int32_t up = 0; up <= 3; up++) {
@@ -255,5 +270,5 @@ void vast_planes(uint8_t *to, const void *held, size_t over) {
 }
 
 void plane_cases(void) {
-    refusals(), joined(), sources(), smallest(), odd(), not_full(), bytes(), parts(), row_places();
+    refusals(), joined(), sources(), shared(), smallest(), odd(), not_full(), bytes(), parts(), row_places();
 }
