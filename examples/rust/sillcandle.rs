@@ -1,7 +1,7 @@
 //! The library from Rust: a safe wrapper and a small program over it. scripts/library compiles and runs it; by hand, on x86-64:
 //!     rustc --edition 2024 examples/rust/sillcandle.rs -L target/staticlib -o out/sillcandle
-//! In order: the calls; refusals; settings, `Record` and its longhand; `Word` and what it tells; `Layout` and `Plane`; the program.
-//! The wrapper holds what the header asks of a caller: counts are the slices' own, and slices that the compiler lends can't overlap.
+//! In order: the calls; refusals; settings, `Record` and its longhand; `Word` and what it tells; `Layout` and `Plane`; `Parts` and `Frame`, of three planes; the program.
+//! The wrapper holds what the header asks of a caller: counts are the slices' own, and what is written overlaps nothing.
 
 use std::error::Error;
 use std::fmt;
@@ -19,6 +19,9 @@ mod sill {
         pub fn sill_needs(record: *const i32, count: usize, x_shift: u32, y_shift: u32, pitch: usize, needs: *mut usize, needs_count: usize) -> u32;
         pub fn sill_row(frame_length: usize, record: *const i32, count: usize, x_shift: u32, y_shift: u32, pitch: usize, level: u32, plane: usize, y: usize, place: *mut usize, place_count: usize) -> u32;
         pub fn sill_build_plane(frame: *mut u8, frame_count: usize, spill: *mut u8, spill_count: usize, scratch: *mut u8, scratch_count: usize, record: *const i32, count: usize, x_shift: u32, y_shift: u32, pitch: usize, src: *const u8, src_count: usize, src_pitch: usize) -> u32;
+        pub fn sill_frame_parts(record: *const i32, count: usize, parts: *mut usize, parts_count: usize) -> u32;
+        pub fn sill_frame_row(frame_length: usize, record: *const i32, count: usize, part: u32, level: u32, plane: usize, y: usize, place: *mut usize, place_count: usize) -> u32;
+        pub fn sill_build_frame(frame: *mut u8, frame_count: usize, spill: *mut u8, spill_count: usize, scratch: *mut u8, scratch_count: usize, record: *const i32, count: usize, y: *const u8, y_count: usize, y_pitch: usize, u: *const u8, u_count: usize, u_pitch: usize, v: *const u8, v_count: usize, v_pitch: usize) -> u32;
     }
 }
 
@@ -73,6 +76,8 @@ refusals! {
     20 NoCode "the word is no code"
     21 NoDown "halving filter isn't told"
     22 NoUp "upscale filter isn't told"
+    23 NoChroma "three planes: width or height is below 2"
+    24 NoFull "three planes: the record isn't full"
 }
 
 impl Error for Refused {}
@@ -258,6 +263,81 @@ impl Plane {
     }
 }
 
+/// One of a frame's three planes.
+#[derive(Clone, Copy, Debug, PartialEq, Eq)]
+pub enum Of {
+    Y,
+    U,
+    V,
+}
+
+/// Where a plane lies in a frame of three.
+#[derive(Clone, Copy, Debug, PartialEq, Eq)]
+pub struct Part {
+    pub start: usize,
+    pub pitch: usize,
+    pub length: usize,
+}
+
+/// Where all three lie, and how many bytes a build takes.
+#[derive(Clone, Copy, Debug, PartialEq, Eq)]
+pub struct Parts {
+    pub y: Part,
+    pub u: Part,
+    pub v: Part,
+    pub frame: usize,
+    pub spill: usize,
+    pub scratch: usize,
+}
+
+/// A plane's bytes as a decoder left them, and the pitch of their rows: not the frame's, which isn't asked for.
+#[derive(Clone, Copy)]
+pub struct Source<'a> {
+    pub bytes: &'a [u8],
+    pub pitch: usize,
+}
+
+/// A frame of three planes that a build has finished.
+pub struct Frame {
+    record: Record,
+    pub bytes: Vec<u8>,
+}
+
+impl Record {
+    pub fn parts(&self) -> Result<Parts, Refused> {
+        let mut told = [0; 12];
+        // SAFETY: a record of ten, and twelve numbers lent for the answer.
+        done(unsafe { sill::sill_frame_parts(self.0.as_ptr(), self.0.len(), told.as_mut_ptr(), told.len()) })?;
+        let part = |k: usize| Part { start: told[k], pitch: told[k + 1], length: told[k + 2] };
+        Ok(Parts { y: part(0), u: part(3), v: part(6), frame: told[9], spill: told[10], scratch: told[11] })
+    }
+
+    /// Builds in a frame of zeros, with spill and scratch of its own.
+    pub fn build_frame(&self, y: Source, u: Source, v: Source) -> Result<Frame, Refused> {
+        let parts = self.parts()?;
+        let [mut bytes, mut spill, mut scratch] = [parts.frame, parts.spill, parts.scratch].map(|n| vec![0u8; n]);
+        let r = &self.0;
+        // SAFETY: each pointer goes with its own slice's count; the vectors are new, so only sources can overlap, and those are only read.
+        done(unsafe {
+            sill::sill_build_frame(
+                bytes.as_mut_ptr(), bytes.len(), spill.as_mut_ptr(), spill.len(), scratch.as_mut_ptr(), scratch.len(), r.as_ptr(), r.len(),
+                y.bytes.as_ptr(), y.bytes.len(), y.pitch, u.bytes.as_ptr(), u.bytes.len(), u.pitch, v.bytes.as_ptr(), v.bytes.len(), v.pitch,
+            )
+        })?;
+        Ok(Frame { record: *self, bytes })
+    }
+}
+
+impl Frame {
+    pub fn row(&self, of: Of, level: u32, plane: usize, y: usize) -> Result<&[u8], Refused> {
+        let (r, mut place) = (&self.record.0, [0; 2]);
+        // SAFETY: a record of ten, and two numbers lent for the answer.
+        done(unsafe { sill::sill_frame_row(self.bytes.len(), r.as_ptr(), r.len(), of as u32, level, plane, y, place.as_mut_ptr(), place.len()) })?;
+        let [offset, length] = place;
+        Ok(&self.bytes[offset..][..length])
+    }
+}
+
 fn main() -> Result<(), Box<dyn Error>> {
     let settings = Settings { pel: Some(1), ..Settings::default() };
     let record = Record::check(settings, 8, 8)?;
@@ -293,6 +373,18 @@ fn main() -> Result<(), Box<dyn Error>> {
     assert_eq!(Layout { record, shifts: (0, 0), pitch: 16 }.build(&source[1..], 8).err(), Some(Refused::BadSource));
     if let Err(why) = Record::check(Settings { pel: Some(3), ..settings }, 8, 8) {
         println!("pel 3: {why} ({why:?})");
+    }
+
+    let record = Record::check(settings, 16, 8)?;
+    println!("{:?}", record.parts()?);
+    let filled = |first: usize, count: usize| (0..count).map(|i| (first + 3 * i) as u8).collect::<Vec<u8>>();
+    let (y, u, v) = (filled(0, 8 * 20), filled(50, 4 * 12), filled(100, 4 * 9));
+    let [y, u, v] = [(&y[..], 20), (&u, 12), (&v, 9)].map(|(bytes, pitch)| Source { bytes, pitch });
+    println!("V, level 1, row 1: {:?}", record.build_frame(y, u, v)?.row(Of::V, 1, 0, 1)?);
+    // The luma pitch for V: here V has too few bytes for it.
+    assert_eq!(record.build_frame(y, u, Source { pitch: y.pitch, ..v }).err(), Some(Refused::BadSource));
+    if let Err(why) = Record::check(settings, 16, 1)?.parts() {
+        println!("16x1: {why} ({why:?})");
     }
     Ok(())
 }
