@@ -34,7 +34,7 @@ static picture fine(int32_t pel, int32_t gpu, int32_t up, int32_t width, int32_t
     return p;
 }
 
-static const size_t close[3] = {0, 0, 0}, loose[3] = {3, 1, 6};
+static const size_t tight[3] = {0, 0, 0}, loose[3] = {3, 1, 6};
 
 static void gives(const picture *p, uint32_t number) {
     layout l = record_of(p);
@@ -69,8 +69,8 @@ static void spoil(picture *p, int wrong, int way) {
 /* Each wrong alone, and each two at once. A record that isn't full has pel 1. */
 static void refusals(void) {
     for (int way = 0; way < WAYS; way++) for (int first = 0; first < WRONGS; first++) for (int second = first; second < WRONGS; second++) {
-        picture p = fine(1, 1, 0, 16, 12, way == BY_ONE ? close : loose);
-        /* A source pitch is told by the width, so that a side of 1 comes last. */
+        picture p = fine(1, 1, 0, 16, 12, way == BY_ONE ? tight : loose);
+        /* What is looked for last is spoilt first: a pitch that is below the row goes by the width. */
         spoil(&p, second, way);
         if (first != second) spoil(&p, first, way);
         gives(&p, wrongs[first]);
@@ -79,7 +79,7 @@ static void refusals(void) {
 
 /* A frame that has room for each plane, or for two of them, isn't long enough for three. */
 static void joined(void) {
-    picture p = fine(2, 1, 0, 64, 48, close);
+    picture p = fine(2, 1, 0, 64, 48, tight);
     is((uint32_t)p.n.frame, 14976 + 2 * 3744), gives(&p, 0);
     static const size_t too_short[] = {0, 3744, 14975, 14976, 18719, 18720, 22463};
     for (size_t k = 0; k < sizeof too_short / sizeof *too_short; k++) p.n.frame = too_short[k], gives(&p, 11);
@@ -131,7 +131,7 @@ static void smallest(void) {
             p.full = 0, p.pel = 1, gives(&p, 23);
             continue;
         }
-        p = fine(2, 1, 0, width, height, close), gives(&p, 0), is(try_parts(&l, 12), 0);
+        p = fine(2, 1, 0, width, height, tight), gives(&p, 0), is(try_parts(&l, 12), 0);
         if (width < 4 || height < 4) {
             if (p.n.frame) failed("fixed case: %dx%d has a byte", width, height);
             is(try_frame_row(&l, 0, 0, 0, 0, 0, 2), 19), is(try_frame_row(&l, SIZE_MAX, 2, 0, 0, 0, 1), 15);
@@ -152,7 +152,7 @@ static void smallest(void) {
 static void odd(void) {
     static const int32_t sides[][2] = {{5, 4}, {4, 4}, {7, 9}, {17, 5}, {19, 33}, {35, 21}, {64, 37}};
     for (size_t k = 0; k < sizeof sides / sizeof *sides; k++) for (int32_t pel = 1; pel <= 4; pel *= 2) for (int32_t up = 0; up <= 3; up++) {
-        picture p = fine(pel, up == 3, up, sides[k][0], sides[k][1], up & 1 ? loose : close);
+        picture p = fine(pel, up == 3, up, sides[k][0], sides[k][1], up & 1 ? loose : tight);
         gives(&p, 0);
         p.n.frame += 1 + k, p.n.spill += k, p.n.scratch += 3 * k, gives(&p, 0);
     }
@@ -160,7 +160,7 @@ static void odd(void) {
 
 /* 24, and what comes before it. */
 static void not_full(void) {
-    picture p = fine(1, 1, 0, 16, 16, close);
+    picture p = fine(1, 1, 0, 16, 16, tight);
     p.full = 0, gives(&p, 24);
     layout l = record_of(&p);
     is(try_parts(&l, 12), 24), is(try_parts(&l, 20), 24), is(try_parts(&l, 11), 15), is(try_parts(&l, 0), 15);
@@ -198,7 +198,7 @@ static void parts(void) {
     static const struct { int32_t pel, width, height; const size_t *parts; } cases[] = {{2, 64, 48, by_hand}, {4, 16384, 16384, largest}, {1, 7, 5, odd_sides}};
     for (int k = 0; k < 3; k++) {
         layout l = laid(cases[k].pel, 1, 0, 1, cases[k].width, cases[k].height, 0);
-        size_t told[12];
+        size_t told[12] = {0};
         for (size_t room = 0; room <= 14; room++) is(try_parts(&l, room), room < 12 ? 15 : 0);
         is(sill_frame_parts(l.record, 10, told, 12), 0);
         if (memcmp(told, cases[k].parts, sizeof told)) failed("fixed case: other parts of %dx%d", cases[k].width, cases[k].height);
@@ -230,6 +230,7 @@ static void row_places(void) {
     static const size_t by_hand[3][2] = {{12288 + 128, 32}, {14976 + 3072 + 64, 16}, {18720 + 3072 + 64, 16}};
     for (uint32_t part = 0; part < 3; part++) {
         size_t place[2];
+        tell("sill_frame_row, by hand");
         is(sill_frame_row(end, l.record, 10, part, 1, 0, 2, place, 2), 0);
         if (memcmp(place, by_hand[part], sizeof place)) failed("fixed case: another row of part %u of 64x48", part);
         is(try_frame_row(&l, end, part, 0, 0, 0, 0), 15), is(try_frame_row(&l, end, part, 0, 0, 0, 1), 15), is(try_frame_row(&l, SIZE_MAX, part, 0, 3, 0, 5), 0);
