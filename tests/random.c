@@ -204,8 +204,8 @@ static size_t source_pitch(const layout *l) {
     return least + (size_t)PICK(0, 0, 0, 1, 2, 3, more);
 }
 
-/* Lengths as the test has room for them, and where they are spoilt, about half of them near their needs. */
-static void lengthen(size_t *const of[], int count, int spoilt) {
+/* About half of the lengths where they are to be spoilt, and all that the test has no room for. */
+static void spoil_lengths(size_t *const of[], int count, int spoilt) {
     for (int k = 0; k < count; k++) if (*of[k] > MOST || (spoilt && below(2))) *of[k] = near(*of[k]);
 }
 
@@ -220,7 +220,7 @@ static void build(void) {
     }
     int spoilt = below(3) == 0;
     lengths n = {end, needs[0], needs[1], source, src_pitch};
-    lengthen((size_t *[]){&n.frame, &n.spill, &n.scratch, &n.src}, 4, spoilt);
+    spoil_lengths((size_t *[]){&n.frame, &n.spill, &n.scratch, &n.src}, 4, spoilt);
     if (spoilt && below(4) == 0) spoil_pitch(&n.src_pitch);
     try_build(&l, &n);
 }
@@ -258,8 +258,8 @@ static void build_frame(void) {
     /* Where all are spoilt a source mostly hides the rest: half of the time it is one length alone. */
     int alone = spoilt && below(2);
     size_t *of[] = {&n.frame, &n.spill, &n.scratch, &n.src[0], &n.src[1], &n.src[2]};
-    if (alone) lengthen(of + below(6), 1, 1);
-    lengthen(of, 6, spoilt && !alone);
+    if (alone) spoil_lengths(of + below(6), 1, 1);
+    spoil_lengths(of, 6, spoilt && !alone);
     if (spoilt && below(4) == 0) spoil_pitch(&n.src_pitch[below(3)]);
     /* Bytes past the third part. */
     if (!spoilt && below(3) == 0 && n.frame + 80 <= MOST) n.frame += below(80);
