@@ -3,8 +3,8 @@ use mathlib.Core.Path.{_≡_}
 use Prim.Native.Nat.{_-_, _≤_, _<_}
 use native.Mathlib.Omega.{arith}
 use lib.ListN.{length, length-set}
-use Rattle.replay_builds.proofs.make.Statement.{statement}
-use Rattle.replay_builds.proofs.make.Tie as tie
+use Rattle.frame_cases.proofs.make.Statement.{statement}
+use Rattle.frame_cases.proofs.make.Tie as tie
 
 abbrev Inv-loop : tie.InvT-loop
 Inv-loop bytes₀ seed x₀ i₀ i-end bytes x i = (length bytes ≡ i-end) × (i ≤ i-end) × (x < 2147483647)

@@ -1,8 +1,8 @@
 -- `put_sums` meets its contract. Assumes nothing.
 use Prim.Native.Nat.{_-_, _≤_, _<_}
 use native.Mathlib.Omega.{arith}
-use Rattle.replay_builds.proofs.put_sums.Statement.{statement}
-use Rattle.replay_builds.proofs.put_sums.Tie as tie
+use Rattle.frame_cases.proofs.put_sums.Statement.{statement}
+use Rattle.frame_cases.proofs.put_sums.Tie as tie
 
 abbrev Inv-loop : tie.InvT-loop
 Inv-loop bytes a₀ b₀ i₀ i-end a b i = (i ≤ i-end) × (a < 4294967291) × (b < 4294967291)
