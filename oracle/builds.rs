@@ -1,6 +1,7 @@
 //! Cases about whole builds, and the Rust's answers. The form of a case is in crates/replay_builds/src/main.rt.
-//! First what a case is and what answers it; then what cases are made; then the search for the first case that differs; last the two cubic paths beside each other.
+//! First what answers a case; then what cases are made; last the two cubic paths beside each other.
 
+use crate::cases::{self, LENGTHS, long, spares};
 use crate::generic;
 use crate::layout::laid_out;
 use crate::met::Met;
@@ -8,66 +9,22 @@ use crate::random::Random;
 use crate::settings::{accept, check, words_of};
 use crate::super_build as sb;
 use crate::super_opts::{SuperOpts, reduce_dim};
-use std::io::{BufReader, BufWriter, Read, Write};
+use std::io::{BufReader, BufWriter};
 
 /// Document 01's limit on a pitch; the Rust has none.
-const MOST_PITCH: u64 = 32_768;
+pub(crate) const MOST_PITCH: u64 = 32_768;
 const WORDS: usize = 24;
 /// What crates/replay_builds can hold of source, frame, spill and scratch.
 const HELD: [u32; 4] = [2_129_920, 4_194_304, 589_824, 524_800];
 
-#[derive(Clone)]
-struct Case {
-    words: [u32; WORDS],
-    source: Vec<u8>,
-    /// Frame, spill and scratch.
-    lent: [Vec<u8>; 3],
-}
+type Case = cases::Case<WORDS, 1>;
 
 const SOURCE_PITCH: usize = 14;
-const LENGTHS: usize = 16;
-const WHOLE: usize = 20;
-const MADE: usize = 21;
-const SEED: usize = 22;
 /// Whether the fused path is off.
 const GENERIC: usize = 23;
 
-/// The bytes that a seed makes.
-fn made(seed: u32, lengths: [usize; 3]) -> [Vec<u8>; 3] {
-    let mut x = u64::from(seed) % 0x7fff_ffff;
-    lengths.map(|n| (0..n).map(|_| { x = x * 48_271 % 0x7fff_ffff; (x >> 23) as u8 }).collect())
-}
-
-fn read(from: &mut impl Read) -> Option<Case> {
-    let mut head = [0u8; 4 * WORDS];
-    from.read_exact(&mut head).ok()?;
-    let words: [u32; WORDS] = std::array::from_fn(|k| u32::from_le_bytes(head[4 * k..][..4].try_into().unwrap()));
-    let mut bytes = |n: usize| { let mut b = vec![0; n]; from.read_exact(&mut b).unwrap(); b };
-    let lengths: [usize; 4] = std::array::from_fn(|k| words[LENGTHS + k] as usize);
-    let source = bytes(lengths[0]);
-    let rest = [lengths[1], lengths[2], lengths[3]];
-    let lent = if words[MADE] == 0 { rest.map(bytes) } else { made(words[SEED], rest) };
-    Some(Case { words, source, lent })
-}
-
-fn write(out: &mut impl Write, c: &Case) {
-    for w in c.words { out.write_all(&w.to_le_bytes()).unwrap(); }
-    out.write_all(&c.source).unwrap();
-    if c.words[MADE] == 0 { for b in &c.lent { out.write_all(b).unwrap(); } }
-}
-
-fn sums(bytes: &[u8]) -> [u8; 8] {
-    let sum = |m: u64| bytes.iter().fold(1u64, |h, &b| (h * m + u64::from(b)) % 4_294_967_291) as u32;
-    let [a, b] = [sum(1_000_003), sum(998_244_353)].map(u32::to_le_bytes);
-    [a, b].concat().try_into().unwrap()
-}
-
-fn long(w: &[u32], k: usize) -> u64 {
-    u64::from(w[k]) << 32 | u64::from(w[k + 1])
-}
-
 /// What a build needs: the least source pitch, and the lengths of source, frame, spill and scratch.
-fn needs(r: &SuperOpts, w: &[u32], source_pitch: u64) -> (u64, [u64; 4]) {
+pub(crate) fn needs(r: &SuperOpts, w: &[u32], source_pitch: u64) -> (u64, [u64; 4]) {
     let pitch = u64::from(w[13]);
     let (width, height) = ((r.width >> w[10]) as u64, (r.height >> w[11]) as u64);
     let (_, end) = sb::layout(r, pitch as usize, (w[10], w[11]));
@@ -103,24 +60,22 @@ fn built(c: &Case) -> (u32, [Vec<u8>; 3]) {
     }
 }
 
-fn answer(c: &Case) -> (u32, Vec<u8>) {
+fn answer(c: &Case, met: &mut Met) -> Vec<u8> {
     let (number, lent) = built(c);
-    let mut out = number.to_le_bytes().to_vec();
-    for b in &lent { out.extend(sums(b)); }
-    if c.words[WHOLE] != 0 { out.extend(&lent[0]); }
-    (number, out)
+    met.note(number);
+    c.answer(number, &lent)
 }
 
 pub fn answers() {
-    let mut from = BufReader::new(std::io::stdin().lock());
-    let mut out = BufWriter::new(std::io::stdout().lock());
-    let mut met = Met::default();
-    while let Some(c) = read(&mut from) {
-        let (number, bytes) = answer(&c);
-        met.note(number);
-        out.write_all(&bytes).unwrap();
-    }
-    met.tell();
+    cases::answers(answer);
+}
+
+pub fn differs(file: &str) {
+    cases::differs(file, answer);
+}
+
+pub fn pick(at: u64) {
+    cases::pick::<WORDS, 1>(at);
 }
 
 /// What a case is made of before its bytes are; the lengths are what is needed and so much more.
@@ -145,42 +100,55 @@ impl Plan {
         let r = laid_out(&words[..14]).unwrap();
         let (_, lengths) = needs(&r, &words, u64::from(words[SOURCE_PITCH + 1]));
         for k in 0..4 { words[LENGTHS + k] = lengths[k] as u32 + self.spare[k]; }
-        words[MADE] = 1;
-        Case { words, source: vec![], lent: [vec![], vec![], vec![]] }
+        words[Case::MADE] = 1;
+        Case::of(words)
     }
 }
 
 /// A record that the Rust's check returns.
-fn record(pel: i32, gpu: i32, down: i32, up: i32, full: bool, width: u32, height: u32) -> [u32; 10] {
+pub(crate) fn record(pel: i32, gpu: i32, down: i32, up: i32, full: bool, width: u32, height: u32) -> [u32; 10] {
     words_of(&check(127, &[pel as u32, gpu as u32, down as u32, up as u32, full.into(), 0, 0, 0, width, height]).unwrap())
+}
+
+/// Ten words that are no record, in place of one.
+pub(crate) fn spoil_record(rng: &mut Random, w: &mut [u32]) {
+    let fine = w.to_vec();
+    while accept(w).is_ok() {
+        w.copy_from_slice(&fine);
+        let at = rng.below(10) as usize;
+        w[at] = match at {
+            4..7 => 1 - w[at],
+            7 => rng.pick(&[w[7] + 1, w[7].wrapping_sub(1)]),
+            _ => rng.pick(&[0, 1, 2, 3, 5, 16_385, u32::MAX, 1 << 31]),
+        };
+    }
+}
+
+/// A pitch, in two words, below the least or above the most.
+pub(crate) fn spoil_pitch(rng: &mut Random, w: &mut [u32], least: u32) {
+    match rng.below(4) { 0 => w[0] = 1, 1 => w[1] = 32_769, 2 => w[1] = 0, _ => w[1] = least - 1 }
+}
+
+/// A length below what is needed.
+pub(crate) fn spoil_length(rng: &mut Random, need: u32) -> u32 {
+    rng.pick(&[need - 1, need - 1, need / 2, 0])
 }
 
 /// A value that the number refuses, in place of one that is fine. Says no where none is: a source of which no byte is needed, a frame without levels.
 fn spoil(rng: &mut Random, w: &mut [u32; WORDS], number: u32) -> bool {
     match number {
-        6 => {
-            let fine = *w;
-            while accept(&w[..10]).is_ok() {
-                *w = fine;
-                let at = rng.below(10) as usize;
-                w[at] = match at {
-                    4..7 => 1 - w[at],
-                    7 => rng.pick(&[w[7] + 1, w[7].wrapping_sub(1)]),
-                    _ => rng.pick(&[0, 1, 2, 3, 5, 16_385, u32::MAX, 1 << 31]),
-                };
-            }
-        }
+        6 => spoil_record(rng, &mut w[..10]),
         7 => w[rng.pick(&[10, 11])] = rng.pick(&[2, 3, 31, 32, u32::MAX]),
         8 | 9 => {
             let at = if number == 8 { 12 } else { SOURCE_PITCH };
             let least = if number == 9 { (w[8] >> w[10]).max(1) } else { (if w[4] != 0 { w[8] } else { reduce_dim(w[8] as i32, 1) as u32 } >> w[10]).max(1) };
-            match rng.below(4) { 0 => w[at] = 1, 1 => w[at + 1] = 32_769, 2 => w[at + 1] = 0, _ => w[at + 1] = least - 1 }
+            spoil_pitch(rng, &mut w[at..at + 2], least);
         }
         _ => {
             // what is needed by the values that were fine: those of lower numbers are spoilt later
             let need = needs(&laid_out(&w[..14]).unwrap(), w, long(w, SOURCE_PITCH)).1[number as usize - 10] as u32;
             if need == 0 { return false; }
-            w[LENGTHS + number as usize - 10] = rng.pick(&[need - 1, need - 1, need / 2, 0]);
+            w[LENGTHS + number as usize - 10] = spoil_length(rng, need);
         }
     }
     true
@@ -199,26 +167,10 @@ fn spoilt(rng: &mut Random, c: &mut Case, numbers: &[u32]) -> bool {
     true
 }
 
-/// The source's bytes and the earlier bytes of what is lent.
-fn filled(rng: &mut Random, mut c: Case) -> Case {
-    let wild = rng.below(8);
-    c.source = (0..c.words[LENGTHS]).map(|k| match wild {
-        0 => 0,
-        1 => rng.pick(&[0, 255]),
-        2 => rng.pick(&[0, 1, 127, 128, 254, 255]),
-        3 => (7 * k) as u8,
-        _ => rng.next() as u8,
-    }).collect();
-    c.words[SEED] = if rng.below(8) == 0 { 0 } else { 1 + rng.below(0x7fff_fffe) as u32 };
-    c
-}
-
 /// The earlier bytes written into the case: this byte and, past the written end, that one.
-fn told(mut c: Case, before: u8, beyond: u8) -> Case {
+fn told(c: Case, before: u8, beyond: u8) -> Case {
     let end = laid_out(&c.words[..14]).map_or(0, |r| needs(&r, &c.words, 0).1[1] as usize);
-    c.words[MADE] = 0;
-    c.lent = std::array::from_fn(|k| (0..c.words[LENGTHS + 1 + k] as usize).map(|at| if k == 0 && at >= end { beyond } else { before }).collect());
-    c
+    c.told(end, before, beyond)
 }
 
 /// Sides from 1 to 40 in turn, or more of the small ones.
@@ -226,10 +178,6 @@ fn sides(rng: &mut Random, turn: u64) -> (u32, u32) {
     if turn % 2 == 0 { return (1 + (turn / 2 % 40) as u32, 1 + (turn / 80 % 40) as u32); }
     let mut side = || match rng.below(3) { 0 => 1 + rng.below(10) as u32, 1 => 4 + rng.below(16) as u32, _ => 1 + rng.below(40) as u32 };
     (side(), side())
-}
-
-fn spares(rng: &mut Random) -> [u32; 4] {
-    std::array::from_fn(|_| match rng.below(4) { 0 => 1 + rng.below(80) as u32, 1 => rng.below(3) as u32, _ => 0 })
 }
 
 fn planned(rng: &mut Random, record: [u32; 10]) -> Plan {
@@ -254,9 +202,8 @@ fn halving(rng: &mut Random, turn: u64) -> Plan {
     planned(rng, r)
 }
 
-/// Every setting.
-fn whole(rng: &mut Random, turn: u64) -> Plan {
-    let (width, height) = sides(rng, turn);
+/// A record of this size, with any settings that the Rust's check takes.
+pub(crate) fn any_record(rng: &mut Random, width: u32, height: u32) -> [u32; 10] {
     loop {
         let values = [
             rng.pick(&[1, 2, 2, 4, 4]),
@@ -268,8 +215,15 @@ fn whole(rng: &mut Random, turn: u64) -> Plan {
             u32::from(rng.below(4) == 0),
             0, width, height,
         ];
-        if let Ok(r) = check(127, &values) { return planned(rng, words_of(&r)); }
+        if let Ok(r) = check(127, &values) { return words_of(&r); }
     }
+}
+
+/// Every setting.
+fn whole(rng: &mut Random, turn: u64) -> Plan {
+    let (width, height) = sides(rng, turn);
+    let r = any_record(rng, width, height);
+    planned(rng, r)
 }
 
 /// Sizes at which the fused path is taken, for one level or more, and some at which it isn't.
@@ -313,7 +267,7 @@ fn differing() -> Vec<Case> {
         let mut c = plan(record(1, 1, 4, 0, full, width, height), (0, 0), pitch).case();
         let (source, frame) = if full { (0, 255) } else { (255, 0) };
         c.source = vec![source; c.words[LENGTHS] as usize];
-        c.words[WHOLE] = 1;
+        c.words[Case::WHOLE] = 1;
         let on = told(c, frame, frame);
         let mut off = on.clone();
         off.words[GENERIC] = 1;
@@ -370,17 +324,17 @@ pub fn cases(seed: u64, count: u64, kind: &str) {
     let faults = faults();
     if kind == "kept" {
         for (k, c) in hard().into_iter().enumerate() {
-            let mut c = filled(rng, c);
-            c.words[WHOLE] = 1;
+            let mut c = c.filled(rng);
+            c.words[Case::WHOLE] = 1;
             if k < 2 { c.source.fill(0); }
-            write(&mut out, &told(c.clone(), 0, 255));
-            write(&mut out, &c);
+            told(c.clone(), 0, 255).write(&mut out);
+            c.write(&mut out);
         }
         for (numbers, full) in faults.iter().flat_map(|f| [(f, true), (f, false)]) {
             let mut c = planned(rng, record(1, 0, 4, 2, full, 9, 8)).case();
             assert!(spoilt(rng, &mut c, numbers));
-            c.words[WHOLE] = 1;
-            write(&mut out, &filled(rng, c));
+            c.words[Case::WHOLE] = 1;
+            c.filled(rng).write(&mut out);
         }
     }
     for turn in 0..count + if kind == "kept" { KEPT_GENERIC } else { 0 } {
@@ -397,51 +351,23 @@ pub fn cases(seed: u64, count: u64, kind: &str) {
         };
         let mut c = plan.case();
         if kind != "large" && rng.below(8) == 0 { spoilt(rng, &mut c, &faults[(turn % faults.len() as u64) as usize]); }
-        c.words[WHOLE] = u32::from(kind != "large" && turn % 32 == 0);
-        let mut c = filled(rng, c);
+        c.words[Case::WHOLE] = u32::from(kind != "large" && turn % 32 == 0);
+        let mut c = c.filled(rng);
         if off {
             c.words[GENERIC] = 1;
             // four of eight turns, so that each of the four ways to choose a size meets both
-            if turn / 4 % 2 == 0 { c.words[SEED] = 0; }
+            if turn / 4 % 2 == 0 { c.words[Case::SEED] = 0; }
         }
-        write(&mut out, &if kind != "large" && turn % 64 == 5 { told(c, 255, 255) } else { c });
+        let c = if kind != "large" && turn % 64 == 5 { told(c, 255, 255) } else { c };
+        c.write(&mut out);
     }
     if kind == "kept" {
-        for c in differing() { write(&mut out, &c); }
+        for c in differing() { c.write(&mut out); }
         for mut c in at_once() {
-            c.words[WHOLE] = 1;
-            write(&mut out, &filled(rng, c));
+            c.words[Case::WHOLE] = 1;
+            c.filled(rng).write(&mut out);
         }
     }
-}
-
-/// The number and the case of the first answer in the file that isn't the Rust's, of the cases on standard input; with it the first byte of the frame that differs, if the case asks for the frame.
-pub fn differs(file: &str) {
-    let mut from = BufReader::new(std::io::stdin().lock());
-    let mut theirs = BufReader::new(std::fs::File::open(file).unwrap());
-    let mut at = 0;
-    while let Some(c) = read(&mut from) {
-        let (_, want) = answer(&c);
-        let mut got = Vec::new();
-        (&mut theirs).take(want.len() as u64).read_to_end(&mut got).unwrap();
-        if want != got {
-            let first = (0..want.len()).find(|&k| got.get(k) != Some(&want[k])).unwrap();
-            println!("case {at}: {:?}", c.words);
-            println!("byte {first} of the answer (4 of the number, 8 each of the sums of frame, spill and scratch, then the frame): {} and not {:?}", want[first], got.get(first));
-            return;
-        }
-        at += 1;
-    }
-    println!("all {at} answers are the Rust's");
-}
-
-/// Case number `at` of those on standard input, now with the whole frame asked for.
-pub fn pick(at: u64) {
-    let mut from = BufReader::new(std::io::stdin().lock());
-    for _ in 0..at { read(&mut from).unwrap(); }
-    let mut c = read(&mut from).unwrap();
-    c.words[WHOLE] = 1;
-    write(&mut std::io::stdout().lock(), &c);
 }
 
 /// What `paths` tells apart: where both paths have to leave one frame, and where builds can differ.
@@ -473,7 +399,7 @@ pub fn paths() {
     let mut sorts: [Sort; 5] = Default::default();
     let mut fails = false;
     let mut at = 0;
-    while let Some(mut c) = read(&mut from) {
+    while let Some(mut c) = Case::read(&mut from) {
         if let Ok(r) = judged(&c.words) {
             let zeros = c.lent[0].iter().all(|&b| b == 0);
             let k = if r.scale_down != 4 { 0 } else { 1 + usize::from(!zeros) + 2 * usize::from(!r.full) };

@@ -38,6 +38,7 @@ mod analyse {
 }
 
 mod builds;
+mod cases;
 mod layout;
 mod margins;
 mod met;

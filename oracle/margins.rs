@@ -4,6 +4,7 @@ use crate::layout::{laid_out, record};
 use crate::met::Met;
 use crate::random::Random;
 use crate::super_build as sb;
+use crate::super_opts::SuperOpts;
 use std::io::{BufWriter, Read, Write};
 
 fn write(out: &mut impl Write, words: &[u32], frame: &[u8]) {
@@ -12,21 +13,25 @@ fn write(out: &mut impl Write, words: &[u32], frame: &[u8]) {
 }
 
 /// A frame that is long enough, or number 11.
-fn framed(w: &[u32], len: usize) -> Result<crate::super_opts::SuperOpts, u32> {
+fn framed(w: &[u32], len: usize) -> Result<SuperOpts, u32> {
     let r = laid_out(&w[..14])?;
     let (_, end) = sb::layout(&r, w[13] as usize, (w[10], w[11]));
     if len < end { Err(11) } else { Ok(r) }
 }
 
-/// A stored row: "19: no such level, plane or row is stored".
-fn row(w: &[u32], frame: &[u8]) -> Result<Vec<u8>, u32> {
-    let r = framed(w, frame.len())?;
-    let (level, plane, y, pitch) = (w[15] as usize, w[16] as usize, w[17] as usize, w[13] as usize);
-    let (regions, _) = sb::layout(&r, pitch, (w[10], w[11]));
+/// Offset and length of a stored row: "19: no such level, plane or row is stored".
+pub(crate) fn place(r: &SuperOpts, pitch: usize, shifts: (u32, u32), [level, plane, y]: [usize; 3]) -> Result<(usize, usize), u32> {
+    let (regions, _) = sb::layout(r, pitch, shifts);
     let &(offset, width, height) = regions.get(level).ok_or(19u32)?;
     let planes = if level > 0 { 1 } else if r.full { (r.pel * r.pel) as usize } else { 0 };
     if plane >= planes || y >= height { return Err(19); }
-    Ok(frame[offset + (plane * height + y) * pitch..][..width].to_vec())
+    Ok((offset + (plane * height + y) * pitch, width))
+}
+
+fn row(w: &[u32], frame: &[u8]) -> Result<Vec<u8>, u32> {
+    let r = framed(w, frame.len())?;
+    let (offset, width) = place(&r, w[13] as usize, (w[10], w[11]), [w[15] as usize, w[16] as usize, w[17] as usize])?;
+    Ok(frame[offset..][..width].to_vec())
 }
 
 pub fn answers() {

@@ -2,16 +2,21 @@
 
 use std::collections::BTreeMap;
 
+/// By what gave it, where a case asks for more than one thing, and the number.
 #[derive(Default)]
-pub struct Met(BTreeMap<u32, u64>);
+pub struct Met(BTreeMap<(&'static str, u32), u64>);
 
 impl Met {
     pub fn note(&mut self, number: u32) {
-        *self.0.entry(number).or_default() += 1;
+        self.note_of("", number);
+    }
+
+    pub fn note_of(&mut self, by: &'static str, number: u32) {
+        *self.0.entry((by, number)).or_default() += 1;
     }
 
     pub fn tell(&self) {
-        let all: Vec<String> = self.0.iter().map(|(number, times)| format!("{number}:{times}")).collect();
+        let all: Vec<String> = self.0.iter().map(|((by, number), times)| format!("{by}{number}:{times}")).collect();
         eprintln!("{}", all.join(" "));
     }
 }
