@@ -13,6 +13,10 @@
 //!     oracle builds-differs FILE          the first of the answers in the file that isn't the Rust's
 //!     oracle builds-pick AT               one of the cases, with its whole frame asked for
 //!     oracle builds-paths                 how many of the cases leave another frame where the fused path is off
+//!     oracle frames-cases SEED COUNT KIND cases for `replay_frames`, of kind whole, sizes, large or kept
+//!     oracle frames                       the Rust's answers to such cases, from standard input
+//!     oracle frames-differs FILE          the first of the answers in the file that isn't the Rust's
+//!     oracle frames-pick AT               one of the cases, with its whole frame asked for
 //!     oracle words-cases SEED COUNT       words of accepted records, and damaged ones
 //!     oracle words-all                    every word of sides 1 to 24, and its neighbour
 //!     oracle words-packed                 what document 01 prints for each word that settings cases, from standard input, pack to
@@ -25,20 +29,13 @@ mod super_opts;
 mod super_build;
 #[path = "generic/host.rs"]
 mod generic;
+#[path = "frame_host.rs"]
+mod portable;
 
-mod analyse {
-    // What `SuperOpts::from_params` names; its own file isn't part of what is ported.
-    pub(crate) struct SuperParams {
-        pub(crate) pel: i32,
-        pub(crate) gpu: i32,
-        pub(crate) levels: i32,
-        pub(crate) width: i32,
-        pub(crate) height: i32,
-    }
-}
-
+mod analyse;
 mod builds;
 mod cases;
+mod frames;
 mod layout;
 mod margins;
 mod met;
@@ -64,6 +61,10 @@ fn main() {
         Some("builds-differs") => builds::differs(words.get(1).map_or_else(|| usage(), String::as_str)),
         Some("builds-pick") => builds::pick(number(1)),
         Some("builds-paths") => builds::paths(),
+        Some("frames-cases") => frames::cases(number(1), number(2), words.get(3).map_or_else(|| usage(), String::as_str)),
+        Some("frames") => frames::answers(),
+        Some("frames-differs") => frames::differs(words.get(1).map_or_else(|| usage(), String::as_str)),
+        Some("frames-pick") => frames::pick(number(1)),
         Some("words-cases") => words::cases(number(1), number(2)),
         Some("words-all") => words::all(),
         Some("words-packed") => words::packed(),
@@ -73,6 +74,6 @@ fn main() {
 }
 
 fn usage() -> ! {
-    eprintln!("usage: oracle SUBJECT-cases SEED COUNT [KIND] | oracle words-all | oracle words-packed | oracle builds-differs FILE | oracle builds-pick AT | oracle builds-paths | oracle SUBJECT; SUBJECT: settings, rows, layout, margins, builds, words");
+    eprintln!("usage: oracle SUBJECT-cases SEED COUNT [KIND] | oracle words-all | oracle words-packed | oracle SUBJECT-differs FILE | oracle SUBJECT-pick AT | oracle builds-paths | oracle SUBJECT; SUBJECT: settings, rows, layout, margins, builds, frames, words; differs and pick: builds, frames");
     std::process::exit(2)
 }
