@@ -298,9 +298,9 @@ fn sides(rng: &mut Random) -> (u32, u32) {
     match side(17) {
         2 => (side(3), side(40)),
         3 => (side(40), side(3)),
-        4 => (side(400), side(30)),
-        5 => (side(100), side(100)),
-        _ => (side(36), side(36)),
+        4 => (side(400), side(60)),
+        5..8 => (side(100), side(100)),
+        _ => (side(40), side(40)),
     }
 }
 
