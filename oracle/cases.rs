@@ -126,7 +126,7 @@ pub(crate) fn differs<const W: usize, const S: usize>(file: &str, answer: impl F
         if want != got {
             let first = (0..want.len()).find(|&k| got.get(k) != Some(&want[k])).unwrap();
             println!("case {at}: {:?}", c.words);
-            println!("byte {first} of the answer (4 of the number, 8 each of the sums of frame, spill and scratch, then the frame, if it is asked for): {} and not {:?}", want[first], got.get(first));
+            println!("byte {first} of the answer (4 of the number, 8 each of the sums of frame, spill and scratch, then the frame, if it is asked for; of three planes, then the parts and the row's place): {} and not {:?}", want[first], got.get(first));
             return;
         }
         at += 1;
