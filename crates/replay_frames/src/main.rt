@@ -50,6 +50,7 @@ fn answer_all(sources: &mut [u8], frame: &mut [u8], spill: &mut [u8], scratch: &
     }
 }
 
+// The parts are written from 0 on: of such ones the checker finds by itself that they are as long as they say.
 fn answer_one(sources: &mut [u8], frame: &mut [u8], spill: &mut [u8], scratch: &mut [u8]) -> bool {
     let mut head = [0u8; 116];
     if io::read_full(STDIN_FILENO, &mut head) < 116 {
