@@ -1,5 +1,4 @@
 -- One outcome: no second answer, row, frame, spill or scratch meets the contract of a public call (`OneOutcome`), by one law (`determined`). The calls of `settings` and `longhands`, proved there, are named among the imports; then come the rows of `filters`, the inner calls of `settings`, `layouts` and `builder`, and last the public calls of `layouts` and `planes`, `build_plane` by the inner call that it makes. docs/EXCEPTIONS.md has those that aren't here. Assumes nothing.
-use mathlib.Core.Path.{_≡_, ap}
 use mathlib.Core.Bool.{true}
 use mathlib.Core.List.{List}
 use Prim.Native.Nat.{ℕ}

@@ -1,27 +1,26 @@
 -- Three calls of `build_plane`, each for a plane in its part, in any order of the planes: where the one call isn't refused none of them is, and they leave what it leaves. And a refusal changes nothing. Assumes nothing.
-use mathlib.Core.Path.{_≡_, refl, sym, ap, subst, _∙_}
-use mathlib.Core.Bool.{Bool, true, false, cond}
+use mathlib.Core.Path.{_≡_, refl, ap, _∙_}
+use mathlib.Core.Bool.{false, cond}
 use mathlib.Core.List.{List, _++_}
 use Prim.Native.Nat.{ℕ, suc, _≤_}
 use native.Mathlib.Omega.{arith}
 use lib.Dec.{eqb}
-use borrow.Author.Tests.{le-ltb, eqb-true, eqb-false, eq-eqb, ne-eqb}
+use borrow.Author.Tests.{le-ltb, ne-eqb}
 use lib.ListN.{length, take, drop, replicate, length-replicate}
 use Rattle.settings.specs.declared.super_opts.SuperOpts.{SuperOpts}
 use Rattle.settings.specs.Answers.{Answer, answer, ifDone}
-use Rattle.settings.proofs.Known.{given, number-of, value-given}
+use Rattle.settings.proofs.Known.{given, number-of}
 use Rattle.layouts.specs.declared.layout.Layout.{Layout}
 use Rattle.layouts.specs.Layout.{widthAt}
 use Rattle.layouts.specs.Refusals.{badPitch, lentNo, buildNo}
 use Rattle.layouts.specs.Room.{Ready}
-use Rattle.layouts.proofs.Choices.{cond-yes, cond-no}
+use Rattle.layouts.proofs.Choices.{cond-no}
 use Rattle.planes.specs.Build.{builtFrame, planeNo}
-use Rattle.planes.proofs.Enough.{frame-long}
-use Rattle.frames.specs.Parts.{planeOf, lengthOf, startOf, joinedEnd}
+use Rattle.frames.specs.Parts.{planeOf, lengthOf, startOf}
 use Rattle.frames.specs.Build.{buildFrameNo, partOf, partBuilt, frameLeft, FrameLeaves, Lent, PlaneCall, Once}
-use Rattle.frames.proofs.Prepared.{Granted, granted, part-ready}
-use Rattle.frames.proofs.Laid.{laid-out, start-mono}
-use Rattle.frames.proofs.Joined.{Cut, cut, cut-long, changed, built-cut, part-long}
+use Rattle.frames.proofs.Prepared.{Granted, granted}
+use Rattle.frames.proofs.Laid.{start-mono}
+use Rattle.frames.proofs.Joined.{Cut, cut, cut-long, changed, built-cut, part-long, all-left}
 
 -- ---- one call
 value-done : {A : Type 0} {n m : ℕ} {a : A} (b none : A) → answer n a ≡ ifDone m b none → m ≡ 0 → a ≡ b
@@ -55,8 +54,7 @@ module _ (r : SuperOpts) (src : ℕ → List ℕ) (sp : ℕ → ℕ) {len s x : 
       let ready : Ready q (length (src k)) (sp k) (length P) (length (b .spill)) (length (b .scratch)) = rw (long, at .spill, at .scratch) (g .parts k le) in
       let none : planeNo q (src k) (sp k) P (b .spill) (b .scratch) ≡ 0 = fine q (g .pitches k le) ready in
       let whole : a .frame ≡ partBuilt r k (src k) (sp k) (b .frame) = c .joined ∙ ap (λ (z : List ℕ). take (startOf r k) (b .frame) ++ (z ++ drop (startOf r (suc k)) (b .frame))) (value-done (builtFrame q (src k) (sp k) P) P (c .leaves .0) none) in
-      let kept = frame-long q (src k) (part k) (part-ready (g .parts k le) refl (at .frame .long k le)) in
-      let made = built-cut r (at .frame) k le (src k) (sp k) kept in
+      let made = built-cut g src (at .frame) k le in
       record {
         number = number-of (c .leaves .0) ∙ none;
         frame = record { is = whole ∙ made .is; long = made .long };
@@ -64,37 +62,18 @@ module _ (r : SuperOpts) (src : ℕ → List ℕ) (sp : ℕ → ℕ) {len s x : 
         scratch = value-done (replicate (length (b .scratch)) 0) (b .scratch) (c .leaves .2) none ∙ ap (λ (z : ℕ). replicate z 0) (at .scratch);
       }
 
--- ---- all three
-module _ {i j k : ℕ} (o : Once i j k) (g : ℕ → List ℕ → List ℕ) (part : ℕ → List ℕ) where
-  abbrev thrice : ℕ → List ℕ
-  thrice = changed k (g k) (changed j (g j) (changed i (g i) part))
-
-  -- each part is changed once, by its own
-  each-once : (m : ℕ) → m ≤ 2 → thrice m ≡ g m (part m)
-  each-once m le = by-tests (eqb m i) (eqb m j) (eqb m k) refl refl refl
-    where
-      by-tests : (a b c : Bool) → eqb m i ≡ a → eqb m j ≡ b → eqb m k ≡ c → thrice m ≡ g m (part m)
-      by-tests true true c ei ej ek = absurd (o .apart .0 (sym (eqb-true m i ei) ∙ eqb-true m j ej))
-      by-tests true false true ei ej ek = absurd (o .apart .1 (sym (eqb-true m i ei) ∙ eqb-true m k ek))
-      by-tests false true true ei ej ek = absurd (o .apart .2 (sym (eqb-true m j ej) ∙ eqb-true m k ek))
-      by-tests true false false ei ej ek = rw (ek, ej, ei) (ap (λ (z : ℕ). g z (part m)) (sym (eqb-true m i ei)))
-      by-tests false true false ei ej ek = rw (ek, ej, ei) (ap (λ (z : ℕ). g z (part m)) (sym (eqb-true m j ej)))
-      by-tests false false true ei ej ek = rw (ek, ej, ei) (ap (λ (z : ℕ). g z (part m)) (sym (eqb-true m k ek)))
-      by-tests false false false ei ej ek = absurd (omega (arith, le, o .first, o .second, o .third, o .apart, eqb-false m i ei, eqb-false m j ej, eqb-false m k ek))
-
+-- ---- the three
 done-answer : {A : Type 0} {n m : ℕ} {a b : A} → n ≡ 0 → m ≡ 0 → a ≡ b → (none : A) → answer n a ≡ ifDone m b none
 done-answer {a = a} {b = b} e z is none = ap (λ (k : ℕ). answer k a) e ∙ ap (answer 0) is ∙ given _ b none z
 
 pub any-order : (r : SuperOpts) (src : ℕ → List ℕ) (sp : ℕ → ℕ) {i j k : ℕ} → Once i j k → {l m n : ℕ} {a b c d : Lent} → buildFrameNo r (λ t. length (src t)) sp (length (a .frame)) (length (a .spill)) (length (a .scratch)) ≡ 0 → PlaneCall r src sp i l a b → PlaneCall r src sp j m b c → PlaneCall r src sp k n c d → (l ≡ 0) × (m ≡ 0) × FrameLeaves r src sp (a .frame) (a .spill) (a .scratch) n (d .frame) (d .spill) (d .scratch)
-unfolding frameLeft
 any-order r src sp {i} {j} {k} o {a = a} {d = d} e first second third =
     let g = granted r (λ t. length (src t)) sp (length (a .frame)) (length (a .spill)) (length (a .scratch)) e in
     let at = cut r (a .frame) (g .end) in
     let one = goes r src sp g i (o .first) (record { frame = at; spill = refl; scratch = refl }) first in
     let two = goes r src sp g j (o .second) (again one) second in
     let three = goes r src sp g k (o .third) (again two) third in
-    let all = each-once o (λ t. builtFrame (planeOf r t) (src t) (sp t)) (λ t. partOf r t (a .frame)) in
-    let left : d .frame ≡ frameLeft r src sp (a .frame) = three .frame .is ∙ rw (all 0 (omega arith), all 1 (omega arith), all 2 (omega arith)) refl in
+    let left = all-left r src sp (a .frame) o (three .frame) in
     (one .number, two .number, (done-answer (three .number) e left (a .frame), done-answer (three .number) e (three .spill) (a .spill), done-answer (three .number) e (three .scratch) (a .scratch)))
 
 -- ---- "A refusal in any plane leaves all three untouched", and spill and scratch too

@@ -1,12 +1,9 @@
 -- `build_part` meets its contract. Assumes nothing.
-use mathlib.Core.Path.{_≡_, refl, sym, ap, _∙_}
-use mathlib.Core.List.{List, _++_}
-use Prim.Native.Nat.{ℕ, suc, _+_, _-_, _≤_}
+use Prim.Native.Nat.{_+_, _-_, _≤_}
 use native.Mathlib.Omega.{arith}
-use lib.ListN.{length, take, drop}
+use lib.ListN.{length}
 use denote.Ref.{now}
-use borrow.Rule.Slice.PartMut.{same-len-mid, mid-len}
-use borrow.Author.Needs.{needs}
+use borrow.Rule.Slice.PartMut.{same-len-mid}
 use Rattle.frames.proofs.Laid.{length-le, start-next, start-mono, start-le}
 use Rattle.frames.proofs.Prepared.{part-ready}
 use Rattle.frames.proofs.Joined.{lent-long, part-back}

@@ -1,6 +1,6 @@
 -- `part_start` meets its contract. The sum so far is the start of the part that the loop has come to. Assumes nothing.
 use mathlib.Core.Path.{_≡_, sym, ap, _∙_}
-use Prim.Native.Nat.{ℕ, _-_, _≤_}
+use Prim.Native.Nat.{_-_, _≤_}
 use native.Mathlib.Omega.{arith}
 use Rattle.layouts.proofs.Loops.{next-less}
 use Rattle.frames.specs.Parts.{startOf}
