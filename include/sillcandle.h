@@ -6,7 +6,7 @@
 
    Numbers. Each call but sill_prepare_alike returns 0 where it is done, else the number that says why not: those of document 01's
    table, and document 02's 15 to 18, 23 and 24, which the table leaves free. Where more than one applies the lowest is given, and none
-   other; sill_longhand_read and the calls for three planes have an order of their own, told there.
+   other; sill_longhand_read, sill_frame_row and sill_build_frame have an order of their own, told there.
 
    Slices. A slice is a pointer and then a count of elements, and the pointer is aligned for its type, as C's own arrays are.
    Where the count is 0 the pointer isn't looked at and may be NULL: a slice that is missing is a slice of length 0, and gets the
@@ -60,7 +60,7 @@
 extern "C" {
 #endif
 
-/* The numbers of a call. SILL_BAD_ where something handed in doesn't do, SILL_NO_ where something isn't there. */
+/* The numbers of a call. SILL_BAD_ or SILL_NOT_ where something handed in doesn't do, SILL_NO_ where something isn't there. */
 enum {
     SILL_DONE = 0,
     SILL_BAD_PEL = 1,          /* pel isn't 1, 2 or 4 */
@@ -86,7 +86,7 @@ enum {
     SILL_NO_DOWN = 21,         /* halving filter isn't told */
     SILL_NO_UP = 22,           /* upscale filter isn't told */
     SILL_NO_CHROMA = 23,       /* three planes: width or height is below 2 */
-    SILL_NO_FULL = 24          /* three planes: the record isn't full */
+    SILL_NOT_FULL = 24         /* three planes: the record isn't full */
 };
 
 /* How many elements a record has, and each call's answer. */
@@ -227,12 +227,12 @@ uint32_t sill_build_plane(uint8_t *frame, size_t frame_count, uint8_t *spill, si
 
 /* Where the parts of a frame of three planes lie. Writes SILL_COUNT_PARTS numbers: for Y, for U and for V where the part starts, its pitch
    and its length; then how many bytes sill_build_frame has to be lent: of frame, of spill, of scratch.
-   Numbers: 6 SILL_NO_RECORD, 15 SILL_NO_ROOM, 23 SILL_NO_CHROMA, 24 SILL_NO_FULL. */
+   Numbers: 6 SILL_NO_RECORD, 15 SILL_NO_ROOM, 23 SILL_NO_CHROMA, 24 SILL_NOT_FULL. */
 uint32_t sill_frame_parts(const int32_t *record, size_t record_count, size_t *parts, size_t parts_count);
 
 /* Where a row of a part lies in a frame of frame_length bytes. part is SILL_Y, SILL_U or SILL_V; level, plane and y are those of sill_row.
    Writes SILL_COUNT_PLACE numbers: offset, from the frame's first byte on, and length.
-   Numbers, in the order in which they are looked for: 6 SILL_NO_RECORD, 23 SILL_NO_CHROMA, 24 SILL_NO_FULL; 11 SILL_BAD_FRAME, shorter
+   Numbers, in the order in which they are looked for: 6 SILL_NO_RECORD, 23 SILL_NO_CHROMA, 24 SILL_NOT_FULL; 11 SILL_BAD_FRAME, shorter
    than the three parts together; 19 SILL_NO_ROW, also for another part. Where `place` is too short, 15 SILL_NO_ROOM stands in place of
    0, 19, 23 and 24. */
 uint32_t sill_frame_row(size_t frame_length, const int32_t *record, size_t record_count, uint32_t part, uint32_t level, size_t plane,
@@ -242,7 +242,7 @@ uint32_t sill_frame_row(size_t frame_length, const int32_t *record, size_t recor
    rows of y begin y_pitch bytes apart, those of u and v u_pitch and v_pitch. The sources may share bytes, as where a row of U and one of
    V lie side by side. Everything is tested before the first byte is stored: a refusal leaves all three planes as they were. Bytes
    past the third part stay. What is said at sill_build_plane of spill, scratch and earlier bytes holds here.
-   Numbers, in the order in which they are looked for: 6 SILL_NO_RECORD, 23 SILL_NO_CHROMA, 24 SILL_NO_FULL; 9 SILL_BAD_SOURCE_PITCH of
+   Numbers, in the order in which they are looked for: 6 SILL_NO_RECORD, 23 SILL_NO_CHROMA, 24 SILL_NOT_FULL; 9 SILL_BAD_SOURCE_PITCH of
    Y, U or V; 10 SILL_BAD_SOURCE of Y, U or V; 11 SILL_BAD_FRAME, shorter than the three parts together; 12 SILL_BAD_SPILL;
    13 SILL_BAD_SCRATCH, by the pitch of Y. */
 uint32_t sill_build_frame(uint8_t *frame, size_t frame_count, uint8_t *spill, size_t spill_count, uint8_t *scratch, size_t scratch_count,

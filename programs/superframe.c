@@ -33,7 +33,7 @@ static const char *sentence(uint32_t number) {
         [SILL_NO_DOWN] = "halving filter isn't told",
         [SILL_NO_UP] = "upscale filter isn't told",
         [SILL_NO_CHROMA] = "three planes: width or height is below 2",
-        [SILL_NO_FULL] = "three planes: the record isn't full",
+        [SILL_NOT_FULL] = "three planes: the record isn't full",
     };
     return number < sizeof all / sizeof *all && all[number] ? all[number] : "a number that isn't known here";
 }

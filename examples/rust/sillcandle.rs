@@ -77,7 +77,7 @@ refusals! {
     21 NoDown "halving filter isn't told"
     22 NoUp "upscale filter isn't told"
     23 NoChroma "three planes: width or height is below 2"
-    24 NoFull "three planes: the record isn't full"
+    24 NotFull "three planes: the record isn't full"
 }
 
 impl Error for Refused {}

@@ -1,7 +1,7 @@
 -- Demand 3 about the product's own calls. In the user's words:
 --     "Reading any word names one build exactly if some accepted record packs to it and all that do leave equal bytes, given the same plane, source pitch, layout and starting frame; it then tells the width, height, pel, levels, gpu, full, rc and lean they all have, and their down and up where document 01 says these matter. It answers "not a code" exactly if none packs to it. It answers that the halving or the upscale filter isn't told exactly if two such records, alike but for that one setting, leave different bytes for some plane, source pitch and layout, the same for both, in a frame of zeros; if both hold, halving is named."
 -- `Demand3` of specs/Demands.antt says it sentence by sentence, and `demand-3` below that it holds of every answer that meets the contract of `read_word`.
--- First the contracts of the five calls, each beside `Post`, what the checker itself reads of the call's `ensures`; then from the definitions to these contracts; then `demand-3`; last `alike-words`, that words which prepare alike leave equal bytes. Assumes nothing.
+-- First the contracts of four calls, each beside `Post`, what the checker itself reads of the call's `ensures`, the fifth being `build-plane-contract` of `planes`; then from the definitions to these contracts; then `demand-3`; last `alike-words`, that words which prepare alike leave equal bytes. Assumes nothing.
 use mathlib.Core.Path.{_≡_, refl, sym, ap, _∙_, subst}
 use mathlib.Core.List.{List}
 use mathlib.Core.Bool.{Bool, true, false}
@@ -17,9 +17,9 @@ use Rattle.settings.specs.declared.super_opts.SuperOpts.{SuperOpts}
 use Rattle.settings.specs.Numbers.{refuse, _then_}
 use Rattle.settings.specs.Answers.{Answer, answer, tested, checked, checkAnswer, packed, packAnswer, told, readAnswer}
 use Rattle.settings.specs.Reading.{Packs, alike}
-use Rattle.settings.proofs.Outcome.{Contract, Promises}
+use Rattle.settings.proofs.Outcome.{Contract, both-ways, Promises}
 use Rattle.settings.proofs.Refusals.{then-first, then-rest}
-use Rattle.settings.proofs.Known.{given}
+use Rattle.settings.proofs.Known.{given, number-of, value-done}
 use Rattle.settings.proofs.Told.{packs-exact}
 use Rattle.settings.proofs.super_opts.SuperOpts.from_opt.Reads as from-opt-reads
 use Rattle.settings.proofs.super_opts.SuperOpts.pack_data.Reads as pack-data-reads
@@ -29,15 +29,11 @@ use Rattle.layouts.specs.declared.layout.Layout.{Layout}
 use Rattle.layouts.specs.Layout.{widthAt, writtenEnd, spillNeed, scratchNeed}
 use Rattle.layouts.specs.Refusals.{badPitch, layoutNo, sourceNeed, lentNo, buildNo}
 use Rattle.planes.specs.Build.{frameBy, planeNo, LeavesBy, BuildLeaves}
-use Rattle.planes.proofs.build.build_plane.Reads as build-plane-reads
 use Rattle.demands.specs.Demands.{Inputs, withLayout, SameBuild, Differ, withDown, withUp, HalvingDiffers, UpscaleDiffers, Demand3, PacksTo, CallLeaves, leaves, Leaves}
 use Rattle.demands.proofs.Alike.{alike-build}
 use Rattle.demands.proofs.Demanded.{then-none, refuse-none, reads-met}
 
 -- ---- the calls' contracts
-pub both-ways : {A : Type 0} → A ↔ A
-both-ways = (λ a. a, λ a. a)
-
 pub from-opt-contract : (κs : Lfts 0) → Contract (from-opt-reads.Post κs) (λ x c e. checked c ≡ checkAnswer (x .0) (x .1 .0) (x .1 .1 .0))
 from-opt-contract κs x c e = both-ways
 
@@ -49,10 +45,6 @@ read-word-contract κs x t e = both-ways
 
 pub prepare-alike-contract : (κs : Lfts 0) → Contract (prepare-alike-reads.Post κs) (λ x b e. b ≡ alike (x .0) (x .1 .0))
 prepare-alike-contract κs x b e = both-ways
-
--- of layout, source, source pitch, frame, spill and scratch
-pub build-plane-contract : (κs : Lfts 4) → Contract (build-plane-reads.Post κs) (λ x t e. BuildLeaves (x .1 .1 .1 .0) (now (x .1 .1 .1 .1 .0)) (x .1 .1 .1 .1 .1 .0) (now (x .0)) (now (x .1 .0)) (now (x .1 .1 .0)) (tested t) (now (e .0)) (now (e .1 .0)) (now (e .1 .1 .0)))
-build-plane-contract κs x t e = both-ways
 
 -- ---- from the definitions to the calls
 packs-to : (v : ℕ) (r : SuperOpts) → Packs v r ↔ PacksTo v r
@@ -79,8 +71,8 @@ with-needs q n sp len spill scratch e =
 pub done-leaves : (fuse : Bool) (q : Layout) (src : List ℕ) (sp : ℕ) (F S X : List ℕ) {k : ℕ} {F' S' X' : List ℕ} → LeavesBy fuse q src sp F S X k F' S' X' → k ≡ 0 → (buildNo q (length src) sp (length F) (spillNeed q) (scratchNeed q) ≡ 0) × (F' ≡ frameBy fuse q src sp F)
 done-leaves fuse q src sp F S X leaves done =
     let n = planeNo q src sp F S X in
-    let none : n ≡ 0 = sym (ap (λ (a : Answer (List ℕ)). a .no) (leaves .0)) ∙ done in
-    (with-needs q (length src) sp (length F) (length S) (length X) none, ap (λ (a : Answer (List ℕ)). a .value) (leaves .0 ∙ sym (given n (frameBy fuse q src sp F) F none)))
+    let none : n ≡ 0 = sym (number-of (leaves .0)) ∙ done in
+    (with-needs q (length src) sp (length F) (length S) (length X) none, value-done (frameBy fuse q src sp F) F (leaves .0) none)
 
 module _ (r : SuperOpts) (g : Inputs) (m : List ℕ) where
   abbrev q : Layout

@@ -29,6 +29,7 @@ use Rattle.filters.specs.Halve.{chosen}
 use Rattle.filters.specs.Refine.{upscale}
 use Rattle.layouts.specs.Layout.{widthAt, heightAt, offsetAt, writtenEnd, spillNeed, scratchNeed}
 use Rattle.layouts.specs.Refusals.{badPitch, leastPitch, layoutNo, sourceNeed, lentNo, buildNo}
+use Rattle.layouts.proofs.Layouts.{pitch-fine}
 use Rattle.layouts.proofs.Loops.{row-in}
 use Rattle.layouts.proofs.Stored.{pel-more}
 use Rattle.builder.specs.Refining.{planeAt}
@@ -47,9 +48,6 @@ refuse-none t k e = ap (λ (b : Bool). refuse b k) e
 either-le : (b : Bool) (m n k : ℕ) → m ≤ k → n ≤ k → cond b m n ≤ k
 either-le true m n k p q = p
 either-le false m n k p q = q
-
-pitch-good : (p least : ℕ) → 1 ≤ p → least ≤ p → p ≤ mostPitch → badPitch p least ≡ false
-pitch-good p least a b c = rw (le-ltb p 1 a, le-ltb p least b, le-ltb mostPitch p c)
 
 module _ (x : SuperOpts) (good : accepted x ≡ true) (lv : 1 ≤ levelCount x) (end : ℕ) (ends : writtenEnd (luma x) ≤ end) where
   width-one : widthAt (luma x) 1 ≤ lumaW x
@@ -75,8 +73,8 @@ module _ (x : SuperOpts) (good : accepted x ≡ true) (lv : 1 ≤ levelCount x) 
       (omega (arith, row-in (h - 1) H W (omega (arith, eh, s .1)), mul-comm W H, length-replicate {A = ℕ} (W * H) 255, ew)) in
       then-none _ _
       (then-none _ _
-      (then-none _ _ (then-none _ _ (record-none x good) refl) (refuse-none _ 8 (pitch-good (W + 16) (leastPitch q) (omega arith) (omega (arith, least)) (omega (arith, side)))))
-      (refuse-none _ 9 (pitch-good W w (omega (arith, s .0)) (omega (arith, ew)) (omega (arith, side)))))
+      (then-none _ _ (then-none _ _ (record-none x good) refl) (refuse-none _ 8 (pitch-fine (W + 16) (leastPitch q) (omega arith) (omega (arith, least)) (omega (arith, side)))))
+      (refuse-none _ 9 (pitch-fine W w (omega (arith, s .0)) (omega (arith, ew)) (omega (arith, side)))))
       (then-none _ _
       (then-none _ _
       (then-none _ _ (refuse-none _ 10 (le-ltb n (sourceNeed q W) source)) (refuse-none _ 11 (le-ltb (length (replicate {A = ℕ} end 0)) (writtenEnd q) (omega (arith, length-replicate {A = ℕ} end 0, ends)))))

@@ -15,19 +15,19 @@ use Rattle.layouts.specs.declared.layout.Layout.{Layout}
 use Rattle.planes.specs.Build.{builtFrame}
 use Rattle.planes.proofs.Enough.{frame-long}
 use Rattle.frames.specs.Parts.{planeOf, lengthOf, startOf, joinedEnd}
-use Rattle.frames.specs.Build.{partOf, partBuilt, frameLeft, Once}
+use Rattle.frames.specs.Build.{partBytes, partBuilt, frameLeft, Once}
 use Rattle.frames.proofs.Laid.{start-first, start-next, start-mono}
 use Rattle.frames.proofs.Prepared.{Granted, part-ready}
 
 after-next : (r : SuperOpts) (k : ℕ) (f : List ℕ) → drop (lengthOf r k) (drop (startOf r k) f) ≡ drop (startOf r (suc k)) f
 after-next r k f = drop-drop (lengthOf r k) (startOf r k) f ∙ ap (λ (n : ℕ). drop n f) (sym (total-suc (lengthOf r) k))
 
-pub part-long : (r : SuperOpts) (k : ℕ) (f : List ℕ) → startOf r (suc k) ≤ length f → length (partOf r k f) ≡ lengthOf r k
+pub part-long : (r : SuperOpts) (k : ℕ) (f : List ℕ) → startOf r (suc k) ≤ length f → length (partBytes r k f) ≡ lengthOf r k
 part-long r k f le = length-take-le (lengthOf r k) (drop (startOf r k) f) (omega (arith, length-drop (startOf r k) f, total-suc (lengthOf r) k, le))
 
 -- a part between P and S
 module _ (r : SuperOpts) (k : ℕ) (P M S : List ℕ) (start : length P ≡ startOf r k) (long : length M ≡ lengthOf r k) where
-  part-is : partOf r k (P ++ (M ++ S)) ≡ M
+  part-is : partBytes r k (P ++ (M ++ S)) ≡ M
   part-is = ap (take (lengthOf r k)) (drop-at P (M ++ S) (startOf r k) start) ∙ take-at M S (lengthOf r k) long
 
   after-is : drop (startOf r (suc k)) (P ++ (M ++ S)) ≡ S
@@ -47,22 +47,22 @@ module _ (r : SuperOpts) (k a n : ℕ) (start : a ≡ startOf r k) (long : n ≡
   pub part-back : (s : List ℕ) (p : ℕ) {q : Layout} {own : List ℕ} → q ≡ planeOf r k → own ≡ builtFrame q s p (take (a + n - a) (drop a f)) → take a f ++ (own ++ drop (a + n - a) (drop a f)) ≡ partBuilt r k s p f
   part-back s p is e =
       rw (e, is, add-sub-cancel-left a n, start, long)
-      (ap (λ (x : List ℕ). take (startOf r k) f ++ (builtFrame (planeOf r k) s p (partOf r k f) ++ x)) (after-next r k f))
+      (ap (λ (x : List ℕ). take (startOf r k) f ++ (builtFrame (planeOf r k) s p (partBytes r k f) ++ x)) (after-next r k f))
 
 -- ---- a frame in its parts, and the rest
 pub record Cut (r : SuperOpts) (f : List ℕ) (part : ℕ → List ℕ) (rest : List ℕ) : Type 0 where
   pub is : f ≡ part 0 ++ (part 1 ++ (part 2 ++ rest))
   pub long : (k : ℕ) → k ≤ 2 → length (part k) ≡ lengthOf r k
 
-next-part : (r : SuperOpts) (k : ℕ) (f : List ℕ) → drop (startOf r k) f ≡ partOf r k f ++ drop (startOf r (suc k)) f
+next-part : (r : SuperOpts) (k : ℕ) (f : List ℕ) → drop (startOf r k) f ≡ partBytes r k f ++ drop (startOf r (suc k)) f
 next-part r k f =
     sym (take-append-drop (lengthOf r k) (drop (startOf r k) f))
-    ∙ ap (λ (x : List ℕ). partOf r k f ++ x) (after-next r k f)
+    ∙ ap (λ (x : List ℕ). partBytes r k f ++ x) (after-next r k f)
 
-pub cut : (r : SuperOpts) (f : List ℕ) → joinedEnd r ≤ length f → Cut r f (λ k. partOf r k f) (drop (joinedEnd r) f)
+pub cut : (r : SuperOpts) (f : List ℕ) → joinedEnd r ≤ length f → Cut r f (λ k. partBytes r k f) (drop (joinedEnd r) f)
 cut r f le =
     record {
-      is = ap (λ (n : ℕ). drop n f) (sym (start-first r)) ∙ next-part r 0 f ∙ ap (λ (x : List ℕ). partOf r 0 f ++ x) (next-part r 1 f ∙ ap (λ (x : List ℕ). partOf r 1 f ++ x) (next-part r 2 f));
+      is = ap (λ (n : ℕ). drop n f) (sym (start-first r)) ∙ next-part r 0 f ∙ ap (λ (x : List ℕ). partBytes r 0 f ++ x) (next-part r 1 f ∙ ap (λ (x : List ℕ). partBytes r 1 f ++ x) (next-part r 2 f));
       long = λ k small. part-long r k f (omega (arith, start-mono r (suc k) (omega (arith, small)), le));
     }
 
@@ -126,10 +126,10 @@ module _ {i j k : ℕ} (o : Once i j k) (g : ℕ → List ℕ → List ℕ) (par
       by-tests false false true ei ej ek = rw (ek, ej, ei) (ap (λ (z : ℕ). g z (part m)) (sym (eqb-true m k ek)))
       by-tests false false false ei ej ek = absurd (omega (arith, le, o .first, o .second, o .third, o .apart, eqb-false m i ei, eqb-false m j ej, eqb-false m k ek))
 
-pub all-left : (r : SuperOpts) (src : ℕ → List ℕ) (sp : ℕ → ℕ) (F : List ℕ) {i j k : ℕ} (o : Once i j k) {f : List ℕ} → Cut r f (thrice o (λ m. builtFrame (planeOf r m) (src m) (sp m)) (λ m. partOf r m F)) (drop (joinedEnd r) F) → f ≡ frameLeft r src sp F
+pub all-left : (r : SuperOpts) (src : ℕ → List ℕ) (sp : ℕ → ℕ) (F : List ℕ) {i j k : ℕ} (o : Once i j k) {f : List ℕ} → Cut r f (thrice o (λ m. builtFrame (planeOf r m) (src m) (sp m)) (λ m. partBytes r m F)) (drop (joinedEnd r) F) → f ≡ frameLeft r src sp F
 unfolding frameLeft
 all-left r src sp F o c =
-    let each = each-once o (λ m. builtFrame (planeOf r m) (src m) (sp m)) (λ m. partOf r m F) in
+    let each = each-once o (λ m. builtFrame (planeOf r m) (src m) (sp m)) (λ m. partBytes r m F) in
     c .is ∙ rw (each 0 (omega arith), each 1 (omega arith), each 2 (omega arith)) refl
 
 -- Y, then U, then V

@@ -20,19 +20,19 @@ use Rattle.layouts.specs.Layout.{widthAt, offsetAt}
 use Rattle.layouts.specs.Refusals.{badPitch, leastPitch, layoutNo}
 use Rattle.layouts.specs.Room.{mostOffset}
 use Rattle.layouts.proofs.Choices.{cond-yes}
-use Rattle.layouts.proofs.Layouts.{allowed, levels-le, offset-le}
+use Rattle.layouts.proofs.Layouts.{pitch-fine, allowed, levels-le, offset-le}
 use Rattle.frames.specs.Parts.{planeOf, lengthOf, startOf, planesNo}
 
 -- what 6, 23 and 24 leave
-pub record Whole (r : SuperOpts) : Type 0 where
+pub record Taken (r : SuperOpts) : Type 0 where
   pub good : accepted r ≡ true
   pub wide : 2 ≤ lumaW r
   pub high : 2 ≤ lumaH r
   pub full : r .full ≡ true
 
-pub whole : (r : SuperOpts) → planesNo r ≡ 0 → Whole r
+pub taken : (r : SuperOpts) → planesNo r ≡ 0 → Taken r
 unfolding planesNo
-whole r e =
+taken r e =
     let w = ltb (lumaW r) 2 in
     let h = ltb (lumaH r) 2 in
     let first = then-first (recordNo r then refuse (w || h) 23) (refuse (not (r .full)) 24) e in
@@ -44,14 +44,6 @@ whole r e =
       full = not-false (r .full) (refuse-not (not (r .full)) 23 (then-rest (recordNo r then refuse (w || h) 23) (refuse (not (r .full)) 24) e));
     }
 
-pitch-fine : (p least : ℕ) → 1 ≤ p → least ≤ p → p ≤ mostPitch → badPitch p least ≡ false
-pitch-fine p least some fits most = rw (le-ltb p 1 some, le-ltb p least fits, le-ltb mostPitch p most) refl
-
-pub pitch-within : (p least : ℕ) → badPitch p least ≡ false → (least ≤ p) × (p ≤ mostPitch)
-pitch-within p least e =
-    let narrow = ltb p 1 || ltb p least in
-    (ltb-false p least (or-false-right (ltb p 1) (ltb p least) (or-false-left narrow (ltb mostPitch p) e)), ltb-false mostPitch p (or-false-right narrow (ltb mostPitch p) e))
-
 -- a full record, and a pitch that level 0 fits
 laid-by : (q : Layout) → accepted (q .opts) ≡ true → q .opts .full ≡ true → (ltb 1 (q .«x_shift») || ltb 1 (q .«y_shift»)) ≡ false → 1 ≤ q .pitch → widthAt q 0 ≤ q .pitch → q .pitch ≤ mostPitch → layoutNo q ≡ 0
 unfolding layoutNo
@@ -59,11 +51,11 @@ laid-by q good full shifts some fits most =
     let least = cond-yes (q .opts .full) (widthAt q 0) (widthAt q 1) full in
     rw (good, shifts, pitch-fine (q .pitch) (leastPitch q) some (omega (arith, least, fits)) most) refl
 
--- "7 and 8 can't arise"
+-- 7 and 8 can't arise
 pub laid-out : (r : SuperOpts) → planesNo r ≡ 0 → (k : ℕ) → layoutNo (planeOf r k) ≡ 0
 unfolding reduced
-laid-out r e zero = let w = whole r e in laid-by (planeOf r 0) (w .good) (w .full) refl (omega (arith, w .wide)) (omega arith) (omega (arith, within r (w .good) .width))
-laid-out r e (suc k) = let w = whole r e in laid-by (planeOf r (suc k)) (w .good) (w .full) refl (omega (arith, w .wide)) (omega arith) (omega (arith, within r (w .good) .width))
+laid-out r e zero = let w = taken r e in laid-by (planeOf r 0) (w .good) (w .full) refl (omega (arith, w .wide)) (omega arith) (omega (arith, within r (w .good) .width))
+laid-out r e (suc k) = let w = taken r e in laid-by (planeOf r (suc k)) (w .good) (w .full) refl (omega (arith, w .wide)) (omega arith) (omega (arith, within r (w .good) .width))
 
 -- a layout is plane k's by its numbers
 pub plane-luma : (r : SuperOpts) (k : ℕ) {w : ℕ} → w ≡ lumaW r → k ≡ 0 → _≡_ {A = Layout} (record { opts = r; «x_shift» = 0; «y_shift» = 0; pitch = w }) (planeOf r k)
@@ -82,7 +74,7 @@ opts-of r zero = refl
 opts-of r (suc k) = refl
 
 pub full-plane : (r : SuperOpts) → planesNo r ≡ 0 → (k : ℕ) → planeOf r k .opts .full ≡ true
-full-plane r e k = ap (λ (x : SuperOpts). x .full) (opts-of r k) ∙ whole r e .full
+full-plane r e k = ap (λ (x : SuperOpts). x .full) (opts-of r k) ∙ taken r e .full
 
 -- no pitch is above luma's
 pub pitch-luma : (r : SuperOpts) (k : ℕ) → planeOf r k .pitch ≤ planeOf r 0 .pitch

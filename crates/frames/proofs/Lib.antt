@@ -3,7 +3,7 @@
 --     Rows       a row of a part, in the frame
 --     Prepared   a call that isn't refused: each plane can be built in its part
 --     Joined     a part built, and the three, one after the other
---     Orders     three calls of `build_plane`, in any order, leave what the one call leaves; a refusal changes nothing
+--     Orders     three calls of `build_plane`, in any order, leave what `build_frame` leaves; a refusal changes nothing
 --     Unique     no second outcome meets a public call's contract
 -- The folders hold a proof for each function.
 pub mod Laid

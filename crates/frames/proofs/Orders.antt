@@ -1,15 +1,18 @@
--- Three calls of `build_plane`, each for a plane in its part, in any order of the planes: where the one call isn't refused none of them is, and they leave what it leaves. And a refusal changes nothing. Assumes nothing.
-use mathlib.Core.Path.{_≡_, refl, ap, _∙_}
+-- Three calls of `build_plane`, each for a plane in its part, in any order of the planes: where the one call isn't refused none of them is, and they leave what it leaves. First one call; then the three; last about `build_frame` itself, and that a refusal changes nothing. Assumes nothing.
+use mathlib.Core.Path.{_≡_, refl, sym, ap, _∙_}
 use mathlib.Core.Bool.{false, cond}
 use mathlib.Core.List.{List, _++_}
 use Prim.Native.Nat.{ℕ, suc, _≤_}
 use native.Mathlib.Omega.{arith}
 use lib.Dec.{eqb}
 use borrow.Author.Tests.{le-ltb, ne-eqb}
+use contract.Lifetimes.{Lfts}
+use denote.Ref.{now}
 use lib.ListN.{length, take, drop, replicate, length-replicate}
 use Rattle.settings.specs.declared.super_opts.SuperOpts.{SuperOpts}
-use Rattle.settings.specs.Answers.{Answer, answer, ifDone}
-use Rattle.settings.proofs.Known.{given, number-of}
+use Rattle.settings.specs.Answers.{answer, ifDone, tested}
+use Rattle.settings.proofs.Known.{given, number-of, value-done, value-refused}
+use Rattle.settings.proofs.Outcome.{Contract, both-ways, Promises}
 use Rattle.layouts.specs.declared.layout.Layout.{Layout}
 use Rattle.layouts.specs.Layout.{widthAt}
 use Rattle.layouts.specs.Refusals.{badPitch, lentNo, buildNo}
@@ -17,15 +20,13 @@ use Rattle.layouts.specs.Room.{Ready}
 use Rattle.layouts.proofs.Choices.{cond-no}
 use Rattle.planes.specs.Build.{builtFrame, planeNo}
 use Rattle.frames.specs.Parts.{planeOf, lengthOf, startOf}
-use Rattle.frames.specs.Build.{buildFrameNo, partOf, partBuilt, frameLeft, FrameLeaves, Lent, PlaneCall, Once}
+use Rattle.frames.specs.Build.{three, buildFrameNo, partBytes, partBuilt, frameLeft, FrameLeaves, Lent, PlaneCall, Once}
 use Rattle.frames.proofs.Prepared.{Granted, granted}
 use Rattle.frames.proofs.Laid.{start-mono}
 use Rattle.frames.proofs.Joined.{Cut, cut, cut-long, changed, built-cut, part-long, all-left}
+use Rattle.frames.proofs.build.build_frame.Reads as build-frame-reads
 
 -- ---- one call
-value-done : {A : Type 0} {n m : ℕ} {a : A} (b none : A) → answer n a ≡ ifDone m b none → m ≡ 0 → a ≡ b
-value-done {A} b none e z = ap (λ (v : Answer A). v .value) e ∙ ap (λ (m : ℕ). cond (eqb m 0) b none) z
-
 fine : (q : Layout) {n sp len spill scratch : ℕ} → badPitch sp (widthAt q 0) ≡ false → Ready q n sp len spill scratch → buildNo q n sp len spill scratch ≡ 0
 unfolding buildNo lentNo
 fine q pitch r = rw (r .layout, pitch, le-ltb _ _ (r .source), le-ltb _ _ (r .end), le-ltb _ _ (r .spills), le-ltb _ _ (r .room)) refl
@@ -49,7 +50,7 @@ module _ (r : SuperOpts) (src : ℕ → List ℕ) (sp : ℕ → ℕ) {len s x : 
   goes : (k : ℕ) → k ≤ 2 → {n : ℕ} {part : ℕ → List ℕ} {rest : List ℕ} {b a : Lent} → Reached r part rest s x b → PlaneCall r src sp k n b a → Went r (changed k (builtFrame (planeOf r k) (src k) (sp k)) part) rest s x n a
   goes k le {n} {part} {rest} {b} {a} at c =
       let q = planeOf r k in
-      let P = partOf r k (b .frame) in
+      let P = partBytes r k (b .frame) in
       let long : length P ≡ lengthOf r k = part-long r k (b .frame) (omega (arith, start-mono r (suc k) (omega (arith, le)), cut-long (at .frame))) in
       let ready : Ready q (length (src k)) (sp k) (length P) (length (b .spill)) (length (b .scratch)) = rw (long, at .spill, at .scratch) (g .parts k le) in
       let none : planeNo q (src k) (sp k) P (b .spill) (b .scratch) ≡ 0 = fine q (g .pitches k le) ready in
@@ -76,10 +77,26 @@ any-order r src sp {i} {j} {k} o {a = a} {d = d} e first second third =
     let left = all-left r src sp (a .frame) o (three .frame) in
     (one .number, two .number, (done-answer (three .number) e left (a .frame), done-answer (three .number) e (three .spill) (a .spill), done-answer (three .number) e (three .scratch) (a .scratch)))
 
--- ---- "A refusal in any plane leaves all three untouched", and spill and scratch too
-value-refused : {A : Type 0} {n m : ℕ} {a : A} (b none : A) → answer n a ≡ ifDone m b none → (n ≡ 0 → ⊥) → a ≡ none
-value-refused {A} {m = m} b none e some = ap (λ (v : Answer A). v .value) e ∙ cond-no (eqb m 0) b none (ne-eqb m 0 (λ z. some (number-of e ∙ z)))
+-- ---- about the call: frame, spill, scratch, record, and source and source pitch of Y, U and V
+pub build-frame-contract : (κs : Lfts 6) → Contract (build-frame-reads.Post κs) (λ x t e. FrameLeaves (x .1 .1 .1 .0) (three (now (x .1 .1 .1 .1 .0)) (now (x .1 .1 .1 .1 .1 .1 .0)) (now (x .1 .1 .1 .1 .1 .1 .1 .1 .0))) (three (x .1 .1 .1 .1 .1 .0) (x .1 .1 .1 .1 .1 .1 .1 .0) (x .1 .1 .1 .1 .1 .1 .1 .1 .1 .0)) (now (x .0)) (now (x .1 .0)) (now (x .1 .1 .0)) (tested t) (now (e .0)) (now (e .1 .0)) (now (e .1 .1 .0)))
+build-frame-contract κs x t e = both-ways
 
-pub refused-kept : (r : SuperOpts) (src : ℕ → List ℕ) (sp : ℕ → ℕ) {F S X F' S' X' : List ℕ} {n : ℕ} → FrameLeaves r src sp F S X n F' S' X' → (n ≡ 0 → ⊥) → (F' ≡ F) × (S' ≡ S) × (X' ≡ X)
-refused-kept r src sp {F} {S} {X} l some =
-    (value-refused (frameLeft r src sp F) F (l .0) some, value-refused (replicate (length S) 0) S (l .1) some, value-refused (replicate (length X) 0) X (l .2) some)
+-- what a call that is done leaves is what three calls of `build_plane` leave
+pub frame-by-calls : (κs : Lfts 6) → Promises (build-frame-reads.Post κs) (λ x t e. tested t ≡ 0 → (i j k : ℕ) → Once i j k → (l m n : ℕ) (b c d : Lent) → PlaneCall (x .1 .1 .1 .0) (three (now (x .1 .1 .1 .1 .0)) (now (x .1 .1 .1 .1 .1 .1 .0)) (now (x .1 .1 .1 .1 .1 .1 .1 .1 .0))) (three (x .1 .1 .1 .1 .1 .0) (x .1 .1 .1 .1 .1 .1 .1 .0) (x .1 .1 .1 .1 .1 .1 .1 .1 .1 .0)) i l (record { frame = now (x .0); spill = now (x .1 .0); scratch = now (x .1 .1 .0) }) b → PlaneCall (x .1 .1 .1 .0) (three (now (x .1 .1 .1 .1 .0)) (now (x .1 .1 .1 .1 .1 .1 .0)) (now (x .1 .1 .1 .1 .1 .1 .1 .1 .0))) (three (x .1 .1 .1 .1 .1 .0) (x .1 .1 .1 .1 .1 .1 .1 .0) (x .1 .1 .1 .1 .1 .1 .1 .1 .1 .0)) j m b c → PlaneCall (x .1 .1 .1 .0) (three (now (x .1 .1 .1 .1 .0)) (now (x .1 .1 .1 .1 .1 .1 .0)) (now (x .1 .1 .1 .1 .1 .1 .1 .1 .0))) (three (x .1 .1 .1 .1 .1 .0) (x .1 .1 .1 .1 .1 .1 .1 .0) (x .1 .1 .1 .1 .1 .1 .1 .1 .1 .0)) k n c d → (now (e .0) ≡ d .frame) × (now (e .1 .0) ≡ d .spill) × (now (e .1 .1 .0) ≡ d .scratch))
+frame-by-calls κs x t e p done i j k o l m n b c d first second third =
+    let one = build-frame-contract κs x t e .0 p in
+    let none = sym (number-of (one .0)) ∙ done in
+    let all = any-order (x .1 .1 .1 .0) (three (now (x .1 .1 .1 .1 .0)) (now (x .1 .1 .1 .1 .1 .1 .0)) (now (x .1 .1 .1 .1 .1 .1 .1 .1 .0))) (three (x .1 .1 .1 .1 .1 .0) (x .1 .1 .1 .1 .1 .1 .1 .0) (x .1 .1 .1 .1 .1 .1 .1 .1 .1 .0)) o none first second third .2 in
+    let left = frameLeft (x .1 .1 .1 .0) (three (now (x .1 .1 .1 .1 .0)) (now (x .1 .1 .1 .1 .1 .1 .0)) (now (x .1 .1 .1 .1 .1 .1 .1 .1 .0))) (three (x .1 .1 .1 .1 .1 .0) (x .1 .1 .1 .1 .1 .1 .1 .0) (x .1 .1 .1 .1 .1 .1 .1 .1 .1 .0)) (now (x .0)) in
+    let zeros : List ℕ → List ℕ = λ lent. replicate (length lent) 0 in (
+      value-done left (now (x .0)) (one .0) none ∙ sym (value-done left (now (x .0)) (all .0) none),
+      value-done (zeros (now (x .1 .0))) (now (x .1 .0)) (one .1) none ∙ sym (value-done (zeros (now (x .1 .0))) (now (x .1 .0)) (all .1) none),
+      value-done (zeros (now (x .1 .1 .0))) (now (x .1 .1 .0)) (one .2) none ∙ sym (value-done (zeros (now (x .1 .1 .0))) (now (x .1 .1 .0)) (all .2) none),
+    )
+
+-- "A refusal in any plane leaves all three untouched", and spill and scratch too
+pub refused-kept : (κs : Lfts 6) → Promises (build-frame-reads.Post κs) (λ x t e. (tested t ≡ 0 → ⊥) → (now (e .0) ≡ now (x .0)) × (now (e .1 .0) ≡ now (x .1 .0)) × (now (e .1 .1 .0) ≡ now (x .1 .1 .0)))
+refused-kept κs x t e p some =
+    let one = build-frame-contract κs x t e .0 p in
+    let no : buildFrameNo _ _ _ _ _ _ ≡ 0 → ⊥ = λ z. some (number-of (one .0) ∙ z) in
+    (value-refused (frameLeft (x .1 .1 .1 .0) (three (now (x .1 .1 .1 .1 .0)) (now (x .1 .1 .1 .1 .1 .1 .0)) (now (x .1 .1 .1 .1 .1 .1 .1 .1 .0))) (three (x .1 .1 .1 .1 .1 .0) (x .1 .1 .1 .1 .1 .1 .1 .0) (x .1 .1 .1 .1 .1 .1 .1 .1 .1 .0)) (now (x .0))) (now (x .0)) (one .0) no, value-refused (replicate (length (now (x .1 .0))) 0) (now (x .1 .0)) (one .1) no, value-refused (replicate (length (now (x .1 .1 .0))) 0) (now (x .1 .1 .0)) (one .2) no)

@@ -13,11 +13,11 @@ use Rattle.layouts.specs.declared.layout.Layout.{Layout}
 use Rattle.layouts.specs.Layout.{widthAt, spillNeed, scratchNeed}
 use Rattle.layouts.specs.Refusals.{badPitch, sourceNeed}
 use Rattle.layouts.specs.Room.{Ready}
-use Rattle.layouts.proofs.Layouts.{allowed}
+use Rattle.layouts.proofs.Layouts.{pitch-within, allowed}
 use Rattle.layouts.proofs.Stored.{spill-full}
 use Rattle.frames.specs.Parts.{planeOf, lengthOf, joinedEnd, planesNo}
 use Rattle.frames.specs.Build.{anyOf, lentFrameNo, buildFrameNo}
-use Rattle.frames.proofs.Laid.{pitch-within, laid-out, full-plane, pitch-luma}
+use Rattle.frames.proofs.Laid.{laid-out, full-plane, pitch-luma}
 
 -- none of three
 pub none-of : (bad : ℕ → Bool) → anyOf bad ≡ false → (k : ℕ) → k ≤ 2 → bad k ≡ false
@@ -60,7 +60,7 @@ granted r n sp len spill scratch e =
       end = ltb-false len (joinedEnd r) (refuse-not t11 10 (then-rest (refuse (anyOf short) 10) (refuse t11 11) e11));
       parts = λ k le. record {
         layout = laid-out r planes k;
-        pitch = pitch-within (sp k) (widthAt (planeOf r k) 0) (none-of bad pitches k le) .0;
+        pitch = pitch-within (sp k) (widthAt (planeOf r k) 0) (none-of bad pitches k le) .1;
         source = ltb-false (n k) (sourceNeed (planeOf r k) (sp k)) (none-of short sources k le);
         end = omega arith;
         spills = omega (arith, need k, need 0, spills);

@@ -66,7 +66,7 @@ module _ (r : SuperOpts) (k l j y : ℕ) where
     pub moved : answer 0 (record { offset = s + at .offset; length = at .length }) ≡ ifDone n (runInOf r k l j y) noRun
     moved = ap (answer 0) (rw (starts, run) refl) ∙ given n (runInOf r k l j y) noRun (sym (number-of e))
 
-    pub moved-le : planesNo r ≡ 0 → k ≤ 3 → n ≡ refuse (noRow (planeOf r k) l j y) 19 → s + at .offset ≤ 4 * mostOffset
+    pub moved-le : planesNo r ≡ 0 → k ≤ 2 → n ≡ refuse (noRow (planeOf r k) l j y) 19 → s + at .offset ≤ 4 * mostOffset
     moved-le p h is = omega (arith, starts, ap (λ (x : Run). x .offset) run, ends-alone p (refuse-not (noRow (planeOf r k) l j y) 18 (sym is ∙ sym (number-of e))), length-le r p k, start-le r p k)
 
   pub placed-in : (len : ℕ) → partNo r len k ≡ 0 → {a : Answer Run} → a ≡ ifDone (refuse (noRow (planeOf r k) l j y) 19) (runInOf r k l j y) noRun → a ≡ placeInAnswer r len k l j y

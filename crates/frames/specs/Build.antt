@@ -40,16 +40,16 @@ buildFrameNo r n sp len spill scratch =
     then lentFrameNo r n sp len spill scratch
 
 -- part k of the frame f
-abbrev pub partOf : SuperOpts → ℕ → List ℕ → List ℕ
-partOf r k f = take (lengthOf r k) (drop (startOf r k) f)
+abbrev pub partBytes : SuperOpts → ℕ → List ℕ → List ℕ
+partBytes r k f = take (lengthOf r k) (drop (startOf r k) f)
 
 -- what document 01's build of plane k leaves in a frame that is its part alone
 abbrev pub planeLeft : SuperOpts → (ℕ → List ℕ) → (ℕ → ℕ) → List ℕ → ℕ → List ℕ
-planeLeft r src sp f k = builtFrame (planeOf r k) (src k) (sp k) (partOf r k f)
+planeLeft r src sp f k = builtFrame (planeOf r k) (src k) (sp k) (partBytes r k f)
 
 -- the frame f with part k of it built
 abbrev pub partBuilt : SuperOpts → ℕ → List ℕ → ℕ → List ℕ → List ℕ
-partBuilt r k s p f = take (startOf r k) f ++ (builtFrame (planeOf r k) s p (partOf r k f) ++ drop (startOf r (suc k)) f)
+partBuilt r k s p f = take (startOf r k) f ++ (builtFrame (planeOf r k) s p (partBytes r k f) ++ drop (startOf r (suc k)) f)
 
 -- "joined in that order as `bytes` does. Bytes past the third stay."
 unfoldable pub frameLeft : SuperOpts → (ℕ → List ℕ) → (ℕ → ℕ) → List ℕ → List ℕ
@@ -68,13 +68,13 @@ pub record Lent : Type 0 where
   pub spill : List ℕ
   pub scratch : List ℕ
 
--- one of them, for plane k in its part of the frame: what it gives by its contract, and the part put back
+-- one of them, for plane k in its part of the frame: what it gives by its contract (`build-plane-contract` of `planes`), and the part put back
 pub record PlaneCall (r : SuperOpts) (src : ℕ → List ℕ) (sp : ℕ → ℕ) (k n : ℕ) (before after : Lent) : Type 0 where
   pub part : List ℕ
-  pub leaves : BuildLeaves (planeOf r k) (src k) (sp k) (partOf r k (before .frame)) (before .spill) (before .scratch) n part (after .spill) (after .scratch)
+  pub leaves : BuildLeaves (planeOf r k) (src k) (sp k) (partBytes r k (before .frame)) (before .spill) (before .scratch) n part (after .spill) (after .scratch)
   pub joined : after .frame ≡ take (startOf r k) (before .frame) ++ (part ++ drop (startOf r (suc k)) (before .frame))
 
--- "in any order": each of the planes 0, 1 and 2 once
+-- the planes 0, 1 and 2 in an order: each of them once
 pub record Once (i j k : ℕ) : Type 0 where
   pub first : i ≤ 2
   pub second : j ≤ 2

@@ -40,12 +40,12 @@ unfoldable pub planesNo : SuperOpts → ℕ
 planesNo r = recordNo r then refuse (ltb (lumaW r) 2 || ltb (lumaH r) 2) 23 then refuse (not (r .full)) 24
 
 -- ---- where the parts lie
-abbrev pub placeOf : SuperOpts → ℕ → Part
-placeOf r k = record { start = startOf r k; pitch = planeOf r k .pitch; length = lengthOf r k }
+abbrev pub partOf : SuperOpts → ℕ → Part
+partOf r k = record { start = startOf r k; pitch = planeOf r k .pitch; length = lengthOf r k }
 
 -- "Spill and scratch needs are luma's."
 abbrev pub partsOf : SuperOpts → Parts
-partsOf r = record { y = placeOf r 0; u = placeOf r 1; v = placeOf r 2; length = joinedEnd r; needs = needsOf (planeOf r 0) }
+partsOf r = record { y = partOf r 0; u = partOf r 1; v = partOf r 2; length = joinedEnd r; needs = needsOf (planeOf r 0) }
 
 abbrev pub noPart : Part
 noPart = record { start = 0; pitch = 0; length = 0 }

@@ -9,7 +9,7 @@ ghost use Rattle.settings.specs.Answers.{tested, ifDone};
 ghost use Rattle.layouts.specs.Storing.{partAt};
 ghost use Rattle.layouts.specs.Refusals.{noRow};
 ghost use Rattle.layouts.specs.Answers.{placed, noRun};
-ghost use Rattle.frames.specs.Parts.{planeOf, lengthOf, startOf, planesNo, placeOf, partsOf, parted, partsAnswer, partNo, runInOf, placeInAnswer, rowInPart, rowInFrom};
+ghost use Rattle.frames.specs.Parts.{planeOf, lengthOf, startOf, planesNo, partOf, partsOf, parted, partsAnswer, partNo, runInOf, placeInAnswer, rowInPart, rowInFrom};
 use layouts::layout::Layout;
 use layouts::layout::Needs;
 use layouts::lent::scratch_need;
@@ -102,9 +102,9 @@ pub(crate) fn planes_tested(opts: SuperOpts) -> Tested
         .then_refuse(!opts.full, Refusal::Planes(BadPlanes::Full))
 }
 
-fn place_of(opts: SuperOpts, part: u32) -> Part
-    requires { ⌜ (planesNo opts ≡ 0) × (part ≤ 3) ⌝ }
-    ensures { λ r. ⌜ r ≡ placeOf opts part ⌝ }
+fn part_of(opts: SuperOpts, part: u32) -> Part
+    requires { ⌜ (planesNo opts ≡ 0) × (part ≤ 2) ⌝ }
+    ensures { λ r. ⌜ r ≡ partOf opts part ⌝ }
 {
     let layout = plane_of(opts, part);
     Part {
@@ -120,9 +120,9 @@ fn parts_of(opts: SuperOpts) -> Parts
 {
     let luma = plane_of(opts, 0);
     Parts {
-        y: place_of(opts, 0),
-        u: place_of(opts, 1),
-        v: place_of(opts, 2),
+        y: part_of(opts, 0),
+        u: part_of(opts, 1),
+        v: part_of(opts, 2),
         length: part_start(opts, 3),
         needs: Needs {
             spill: spill_need(luma),
@@ -157,7 +157,7 @@ fn part_tested(opts: SuperOpts, len: usize, part: u32) -> Tested
 
 // In the frame, where a row of the part lies.
 fn place_in(opts: SuperOpts, part: u32, level: u32, plane: usize, y: usize) -> Placed
-    requires { ⌜ (planesNo opts ≡ 0) × (part ≤ 3) ⌝ }
+    requires { ⌜ (planesNo opts ≡ 0) × (part ≤ 2) ⌝ }
     ensures { λ r. ⌜ placed r ≡ ifDone (refuse (noRow (planeOf opts part) level plane y) 19) (runInOf opts part level plane y) noRun ⌝ }
 {
     let length = part_length(opts, part);

@@ -7,7 +7,7 @@ use native.Mathlib.Nat.{le-trans, le-of-suc-le-suc, eq-or-lt-of-le, one-mul, div
 use native.Mathlib.Numerals.{add-one}
 use native.Mathlib.Omega.{arith}
 use lib.Dec.{ltb, leb}
-use borrow.Author.Tests.{ltb-false, leb-false, lt-ltb, not-false}
+use borrow.Author.Tests.{ltb-false, leb-false, lt-ltb, le-ltb, not-false}
 use Rattle.settings.specs.Limits.{mostSide, mostPitch, mostLevels}
 use Rattle.settings.specs.declared.refusal.Refusal.{Refusal}
 use Rattle.settings.specs.Answers.{Answer, answer, number}
@@ -28,6 +28,15 @@ use Rattle.layouts.proofs.Choices.{cond-yes}
 use Rattle.layouts.proofs.Loops.{row-in}
 
 -- ---- what the refusals leave
+pub pitch-within : (p least : ℕ) → badPitch p least ≡ false → (1 ≤ p) × (least ≤ p) × (p ≤ mostPitch)
+pitch-within p least e =
+    let narrow = ltb p 1 || ltb p least in
+    let wide = or-false-left narrow (ltb mostPitch p) e in
+    (ltb-false p 1 (or-false-left (ltb p 1) (ltb p least) wide), ltb-false p least (or-false-right (ltb p 1) (ltb p least) wide), ltb-false mostPitch p (or-false-right narrow (ltb mostPitch p) e))
+
+pub pitch-fine : (p least : ℕ) → 1 ≤ p → least ≤ p → p ≤ mostPitch → badPitch p least ≡ false
+pitch-fine p least some fits most = rw (le-ltb p 1 some, le-ltb p least fits, le-ltb mostPitch p most) refl
+
 pub record Allowed (q : Layout) : Type 0 where
   pub good : accepted (q .opts) ≡ true
   pub x : q .«x_shift» ≤ 1
@@ -44,19 +53,18 @@ allowed q e =
     let p = q .pitch in
     let t7 = ltb 1 x || ltb 1 y in
     let t8 = badPitch p (leastPitch q) in
-    let narrow = ltb p 1 || ltb p (leastPitch q) in
     let first = then-first (recordNo (q .opts) then refuse t7 7) (refuse t8 8) e in
     let s6 = refuse-not (not (accepted (q .opts))) 5 (then-first (recordNo (q .opts)) (refuse t7 7) first) in
     let s7 = refuse-not t7 6 (then-rest (recordNo (q .opts)) (refuse t7 7) first) in
     let s8 = refuse-not t8 7 (then-rest (recordNo (q .opts) then refuse t7 7) (refuse t8 8) e) in
-    let s1 = or-false-left narrow (ltb mostPitch p) s8 in
+    let pitch = pitch-within p (leastPitch q) s8 in
     record {
       good = not-false (accepted (q .opts)) s6;
       x = ltb-false 1 x (or-false-left (ltb 1 x) (ltb 1 y) s7);
       y = ltb-false 1 y (or-false-right (ltb 1 x) (ltb 1 y) s7);
-      some = ltb-false p 1 (or-false-left (ltb p 1) (ltb p (leastPitch q)) s1);
-      least = ltb-false p (leastPitch q) (or-false-right (ltb p 1) (ltb p (leastPitch q)) s1);
-      most = ltb-false mostPitch p (or-false-right narrow (ltb mostPitch p) s8);
+      some = pitch .0;
+      least = pitch .1;
+      most = pitch .2;
     }
 
 -- ---- what a call's number says

@@ -9,7 +9,7 @@ use native.Mathlib.Omega.{arith}
 use lib.ListN.{length, getD, replicate, getD-replicate}
 use contract.Lifetimes.{Lfts}
 use denote.Ref.{now}
-use Rattle.settings.proofs.Outcome.{Contract, Promises}
+use Rattle.settings.proofs.Outcome.{Contract, both-ways, Promises}
 use Rattle.filters.specs.declared.halving.ReduceFilter.{ReduceFilter}
 use Rattle.filters.specs.declared.halving.ReduceFilter.the-variants.{Cubic}
 use Rattle.filters.proofs.Tests.{below-or}
@@ -32,7 +32,6 @@ use Rattle.planes.proofs.Whole.{ready}
 use Rattle.planes.proofs.Enough.{length-kept}
 use Rattle.builder.proofs.Swaps.{steps-keep}
 use Rattle.demands.proofs.Kept.{Has, Off, KeepsByte, has-after, steps-hit, stored-off, clear-off}
-use Rattle.demands.proofs.Demand.{both-ways}
 use Rattle.paths.specs.Paths.{fusedHalving, genericHalving, BothWays, ForLevel, MarginsZeroed, placeAt, OnePicture}
 use Rattle.paths.proofs.Equation.{zeros-long, margin-keeps, two-paths}
 

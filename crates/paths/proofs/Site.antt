@@ -13,7 +13,7 @@ use contract.Lifetimes.{Lfts}
 use denote.Ref.{now}
 use Rattle.settings.specs.Numbers.{isNat}
 use Rattle.settings.specs.Answers.{tested}
-use Rattle.settings.proofs.Outcome.{Contract, Promises}
+use Rattle.settings.proofs.Outcome.{Contract, both-ways, Promises}
 use Rattle.filters.specs.declared.halving.ReduceFilter.{ReduceFilter}
 use Rattle.filters.specs.declared.halving.Chosen.{Chosen}
 use Rattle.filters.specs.declared.halving.Chosen.the-variants.{Filter, NoFilter}
@@ -28,9 +28,10 @@ use Rattle.layouts.proofs.Loops.{row-in}
 use Rattle.planes.specs.Build.{copied, levelBy, halvedBy, refined, builtBy, frameBy, LeavesBy}
 use Rattle.planes.proofs.Prepared.{within-here}
 use Rattle.planes.proofs.Whole.{ready}
+use Rattle.planes.proofs.Calls.{build-plane-contract}
 use Rattle.planes.proofs.build.build_plane.Reads as build-plane-reads
 use Rattle.planes.proofs.build.build_plane_by.Reads as build-plane-by-reads
-use Rattle.demands.proofs.Demand.{both-ways, build-plane-contract, done-leaves}
+use Rattle.demands.proofs.Demand.{done-leaves}
 use Rattle.paths.specs.Paths.{placeAt, OneFrame, FusedMarginsZero, SameInput, Source, inTurn, AllAccepted}
 use Rattle.builder.proofs.Swaps.{steps-alike}
 use Rattle.paths.proofs.Builds.{Clean, stored-yes, built-same, built-zeros}

@@ -4,6 +4,7 @@
 --     Whole      a build, whole: what the refusals leave, level 0's rows and planes, and its stages one after the other
 --     Built      a build that isn't refused reads and stores in frame and spill alone
 --     Enough     the spill need covers every store of a build
+--     Calls      the contract of `build_plane`
 --     Views      the view `Level0` and the plain parameters that stand for it
 -- The folders hold a proof for each function.
 pub mod Prepared
@@ -11,4 +12,5 @@ pub mod Parts
 pub mod Whole
 pub mod Built
 pub mod Enough
+pub mod Calls
 pub mod Views

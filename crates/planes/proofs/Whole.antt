@@ -17,7 +17,8 @@ use Rattle.settings.specs.declared.refusal.Tested.{Tested}
 use Rattle.settings.specs.Answers.{Answer, answer, tested}
 use Rattle.settings.proofs.Tests.{and-left, and-right, or-false-left, or-false-right}
 use Rattle.settings.proofs.Refusals.{then-first, then-rest, refuse-not}
-use Rattle.settings.proofs.Known.{given, number-of, tested-known}
+use Rattle.settings.proofs.Known.{given}
+use Rattle.settings.proofs.Outcome.{determined}
 use Rattle.filters.specs.declared.half_pel.Upscale.{Upscale}
 use Rattle.filters.specs.Halve.{chosen}
 use Rattle.filters.specs.Refine.{upscale}
@@ -27,7 +28,8 @@ use Rattle.layouts.specs.Refusals.{badPitch, sourceNeed, layoutNo, lentNo, buil
 use Rattle.layouts.specs.Room.{Ready}
 use Rattle.layouts.proofs.Choices.{cond-yes, cond-no}
 use Rattle.layouts.proofs.Loops.{row-in}
-use Rattle.layouts.proofs.Layouts.{Allowed, allowed, height-le, offset-first, level-end, width-first}
+use Rattle.layouts.proofs.Known.{left-known}
+use Rattle.layouts.proofs.Layouts.{pitch-within, Allowed, allowed, height-le, offset-first, level-end, width-first}
 use Rattle.layouts.proofs.Stored.{pel-more, width-some, height-some, stored-some, spill-full}
 use Rattle.builder.specs.Refining.{refine}
 use Rattle.builder.specs.Room.{Planes}
@@ -75,7 +77,7 @@ ready q n sp len spill scratch e =
     let f = lent-fits q n sp len spill scratch (then-rest (layoutNo q then refuse t9 9) lent e) in
     record {
       layout = then-first (layoutNo q) (refuse t9 9) first;
-      pitch = ltb-false sp w (or-false-right (ltb sp 1) (ltb sp w) (or-false-left (ltb sp 1 || ltb sp w) (ltb mostPitch sp) s9));
+      pitch = pitch-within sp w s9 .1;
       source = f .source;
       end = f .end;
       spills = f .spills;
@@ -185,7 +187,11 @@ lent-zeroed n k l z e kept none = ap (answer 0) (e ∙ ap (λ (m : ℕ). replica
 
 -- one outcome: the number, and what frame, spill and scratch are left as
 pub one-left : {r s : Tested} {F S X G T Y : List ℕ} {f t x : Answer (List ℕ)} → (answer (tested r) F ≡ f) × (answer (tested r) S ≡ t) × (answer (tested r) X ≡ x) → (answer (tested s) G ≡ f) × (answer (tested s) T ≡ t) × (answer (tested s) Y ≡ x) → _≡_ {A = Tested × List ℕ × List ℕ × List ℕ} (r, F, S, X) (s, G, T, Y)
-one-left {r} {s} p q = rw (tested-known r s (number-of (p .0 ∙ sym (q .0))), bytes (p .0 ∙ sym (q .0)), bytes (p .1 ∙ sym (q .1)), bytes (p .2 ∙ sym (q .2)))
+one-left {r} {s} {F} {S} {X} {G} {T} {Y} p q =
+    let frame = determined left-known {a = (r, F)} {b = (s, G)} (p .0) (q .0) in
+    let spill = determined left-known {a = (r, S)} {b = (s, T)} (p .1) (q .1) in
+    let scratch = determined left-known {a = (r, X)} {b = (s, Y)} (p .2) (q .2) in
+    rw (ap (λ (a : Tested × List ℕ). a .0) frame, bytes frame, bytes spill, bytes scratch)
   where
-    bytes : {m n : ℕ} {a b : List ℕ} → answer m a ≡ answer n b → a ≡ b
-    bytes = ap (λ (x : Answer (List ℕ)). x .value)
+    bytes : {a b : Tested × List ℕ} → a ≡ b → a .1 ≡ b .1
+    bytes = ap (λ (a : Tested × List ℕ). a .1)

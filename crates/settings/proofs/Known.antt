@@ -85,12 +85,19 @@ given n a none e = rw e
 pub refused : {A : Type 0} (n : ℕ) (f : Refusal) (a none : A) → number f ≡ n → answer (number f) none ≡ ifDone n a none
 refused n f a none e = rw (← e, number-some f)
 
--- the number of an answer, and the value that is given where that is 0
+-- the number of an answer
 pub number-of : {B : Type 0} {m n : ℕ} {a b : B} → answer m a ≡ answer n b → m ≡ n
 number-of {B} e = ap (λ (x : Answer B). x .no) e
 
+-- the value of an answer whose number is 0, and of one whose number isn't
+pub value-done : {B : Type 0} {m n : ℕ} {a : B} (b none : B) → answer m a ≡ ifDone n b none → n ≡ 0 → a ≡ b
+value-done {B} b none e z = ap (λ (x : Answer B). x .value) e ∙ ap (λ (n : ℕ). cond (eqb n 0) b none) z
+
 pub value-given : {B : Type 0} {n : ℕ} {a : B} (b none : B) → answer 0 a ≡ ifDone n b none → a ≡ b
-value-given {B} b none e = ap (λ (x : Answer B). x .value) e ∙ ap (λ (m : ℕ). cond (eqb m 0) b none) (sym (number-of e))
+value-given b none e = value-done b none e (sym (number-of e))
+
+pub value-refused : {B : Type 0} {m n : ℕ} {a : B} (b none : B) → answer m a ≡ ifDone n b none → (n ≡ 0 → ⊥) → a ≡ none
+value-refused {B} b none e some = ap (λ (x : Answer B). x .value) e ∙ rw (ne-eqb _ 0 some) refl
 
 -- ---- an answer is known by its number and value
 -- f is known by its value, where g takes it back

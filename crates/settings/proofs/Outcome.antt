@@ -6,6 +6,10 @@ use mathlib.Core.Logic.{_↔_}
 abbrev pub Contract : {X R E : Type 0} → (X → R → E → Type 0) → (X → R → E → Type 0) → Type 0
 Contract {X} {R} {E} Post Says = (x : X) (r : R) (e : E) → Post x r e ↔ Says x r e
 
+-- where it is written so
+pub both-ways : {A : Type 0} → A ↔ A
+both-ways = (λ a. a, λ a. a)
+
 -- `Says` follows from it
 abbrev pub Promises : {X R E : Type 0} → (X → R → E → Type 0) → (X → R → E → Type 0) → Type 0
 Promises {X} {R} {E} Post Says = (x : X) (r : R) (e : E) → Post x r e → Says x r e

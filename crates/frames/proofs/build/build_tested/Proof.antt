@@ -9,10 +9,9 @@ use Rattle.settings.specs.Numbers.{refuse, _then_}
 use Rattle.settings.specs.Answers.{tested}
 use Rattle.layouts.specs.Layout.{widthAt}
 use Rattle.layouts.specs.Refusals.{badPitch}
-use Rattle.layouts.proofs.Layouts.{then-kept}
+use Rattle.layouts.proofs.Layouts.{pitch-within, then-kept}
 use Rattle.frames.specs.Parts.{planeOf, planesNo}
 use Rattle.frames.specs.Build.{three, anyOf, lentFrameNo, buildFrameNo}
-use Rattle.frames.proofs.Laid.{pitch-within}
 use Rattle.frames.proofs.Prepared.{none-of}
 use Rattle.frames.proofs.build.build_tested.Statement.{statement}
 use Rattle.frames.proofs.build.build_tested.Tie as tie
@@ -27,7 +26,7 @@ bad : (c : tie.After-bad-source-pitch3) → anyOf (isBad c) ≡ (c .before .befo
 bad c = rw (c .bad-source-pitch3 .ensures, c .before .bad-source-pitch2 .ensures, c .before .before .bad-source-pitch .ensures) refl
 
 within : (c : tie.Else1) (k : ℕ) → k ≤ 2 → (let s = c .before .before .before .before .before .before .before .args in three (s .y-pitch) (s .u-pitch) (s .v-pitch) k) ≤ mostPitch
-within c k le = pitch-within _ _ (none-of (isBad (c .before)) (bad (c .before) ∙ c .if1 .left) k le) .1
+within c k le = pitch-within _ _ (none-of (isBad (c .before)) (bad (c .before) ∙ c .if1 .left) k le) .2
 
 planes-tested-requires : tie.Need-planes-tested-requires
 planes-tested-requires c κs = tt

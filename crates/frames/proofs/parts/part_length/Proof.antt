@@ -3,7 +3,7 @@ use mathlib.Core.Path.{ap, _∙_}
 use native.Mathlib.Omega.{arith}
 use Rattle.settings.specs.declared.super_opts.Naturals.{Naturals}
 use Rattle.settings.proofs.Accepted.{levels-most}
-use Rattle.frames.proofs.Laid.{whole, laid-plane, length-by}
+use Rattle.frames.proofs.Laid.{taken, laid-plane, length-by}
 use Rattle.frames.proofs.parts.part_length.Statement.{statement}
 use Rattle.frames.proofs.parts.part_length.Tie as tie
 
@@ -16,7 +16,7 @@ plane-of-requires c κs = tt
 offset-requires : tie.Need-offset-requires
 offset-requires c κs =
     let s = c .before .before in
-    (laid-plane (s .args .opts) (s .pre) (s .args .part) (c .plane-of .ensures), omega (arith, ap (λ (x : Naturals). x .levels) (c .before .naturals .ensures), levels-most (s .args .opts) (whole (s .args .opts) (s .pre) .good)))
+    (laid-plane (s .args .opts) (s .pre) (s .args .part) (c .plane-of .ensures), omega (arith, ap (λ (x : Naturals). x .levels) (c .before .naturals .ensures), levels-most (s .args .opts) (taken (s .args .opts) (s .pre) .good)))
 
 returns : tie.Need-returns
 returns c =

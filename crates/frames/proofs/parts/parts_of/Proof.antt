@@ -7,14 +7,14 @@ use Rattle.frames.proofs.parts.parts_of.Tie as tie
 plane-of-requires : tie.Need-plane-of-requires
 plane-of-requires c κs = tt
 
-place-of-requires : tie.Need-place-of-requires
-place-of-requires c κs = (c .before .pre, omega arith)
+part-of-requires : tie.Need-part-of-requires
+part-of-requires c κs = (c .before .pre, omega arith)
 
-place-of-requires-2 : tie.Need-place-of-requires-2
-place-of-requires-2 c κs = (c .before .before .pre, omega arith)
+part-of-requires-2 : tie.Need-part-of-requires-2
+part-of-requires-2 c κs = (c .before .before .pre, omega arith)
 
-place-of-requires-3 : tie.Need-place-of-requires-3
-place-of-requires-3 c κs = (c .before .before .before .pre, omega arith)
+part-of-requires-3 : tie.Need-part-of-requires-3
+part-of-requires-3 c κs = (c .before .before .before .pre, omega arith)
 
 part-start-requires : tie.Need-part-start-requires
 part-start-requires c κs = (c .before .before .before .before .pre, omega arith)
@@ -31,7 +31,7 @@ returns c =
     let v = start .before in
     let u = v .before in
     let y = u .before in
-    rw (c .scratch-need .ensures, c .before .spill-need .ensures, start .part-start .ensures, v .place-of3 .ensures, u .place-of2 .ensures, y .place-of .ensures, y .before .plane-of .ensures)
+    rw (c .scratch-need .ensures, c .before .spill-need .ensures, start .part-start .ensures, v .part-of3 .ensures, u .part-of2 .ensures, y .part-of .ensures, y .before .plane-of .ensures)
 
 pub parts-of-spec : {M : Type 1} → statement M
-parts-of-spec = tie.close (tie.spec plane-of-requires place-of-requires place-of-requires-2 place-of-requires-3 part-start-requires spill-need-requires scratch-need-requires returns)
+parts-of-spec = tie.close (tie.spec plane-of-requires part-of-requires part-of-requires-2 part-of-requires-3 part-start-requires spill-need-requires scratch-need-requires returns)

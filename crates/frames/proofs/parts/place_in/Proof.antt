@@ -32,7 +32,7 @@ enum-known-run : tie.Need-enum-known-run
 enum-known-run c = search needs
 
 part-start-requires : tie.Need-part-start-requires
-part-start-requires c κs = c .before .before .before .before .before .before .pre
+part-start-requires c κs = let p = c .before .before .before .before .before .before .pre in (p .0, omega (arith, p .1))
 
 add-t13 : tie.Need-add-t13
 add-t13 c =

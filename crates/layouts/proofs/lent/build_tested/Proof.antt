@@ -1,15 +1,10 @@
 -- `build_tested` meets its contract. Assumes nothing.
 use mathlib.Core.Path.{_≡_, refl, sym, ap, _∙_}
-use lib.Dec.{ltb}
-use borrow.Author.Tests.{ltb-false}
-use mathlib.Core.Bool.{_||_}
-use Rattle.settings.specs.Limits.{mostPitch}
 use Rattle.settings.specs.Numbers.{refuse, _then_}
 use Rattle.settings.specs.Answers.{tested}
-use Rattle.settings.proofs.Tests.{or-false-right}
 use Rattle.layouts.specs.Layout.{widthAt}
 use Rattle.layouts.specs.Refusals.{badPitch, layoutNo, lentNo, buildNo}
-use Rattle.layouts.proofs.Layouts.{then-kept}
+use Rattle.layouts.proofs.Layouts.{pitch-within, then-kept}
 use borrow.Author.Needs.{needs}
 use Rattle.layouts.proofs.lent.build_tested.Statement.{statement}
 use Rattle.layouts.proofs.lent.build_tested.Tie as tie
@@ -54,8 +49,7 @@ returns-2 c = rw (passed (c .before .before), bad (c .before) ∙ c .if1 .taken)
 lent-tested-requires : tie.Need-lent-tested-requires
 lent-tested-requires c κs =
     let s = c .before .before .before .before .before .before .args in
-    let sp = s .src-pitch in
-    (passed (c .before .before), ltb-false mostPitch sp (or-false-right (ltb sp 1 || ltb sp (widthAt (s .layout) 0)) (ltb mostPitch sp) (bad (c .before) ∙ c .if1 .left)))
+    (passed (c .before .before), pitch-within (s .src-pitch) (widthAt (s .layout) 0) (bad (c .before) ∙ c .if1 .left) .2)
 
 returns-3 : tie.Need-returns-3
 unfolding buildNo
