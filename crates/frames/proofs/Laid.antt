@@ -5,7 +5,7 @@ use Prim.Native.Nat.{ℕ, zero, suc, _+_, _*_, _/_, _≤_}
 use native.Mathlib.Numerals.{add-one}
 use native.Mathlib.Omega.{arith}
 use lib.Dec.{ltb}
-use borrow.Author.Tests.{ltb-false, le-ltb, not-false}
+use borrow.Author.Tests.{ltb-false, not-false}
 use Rattle.settings.specs.declared.super_opts.SuperOpts.{SuperOpts}
 use Rattle.settings.specs.Limits.{mostPitch}
 use Rattle.settings.specs.Numbers.{refuse, _then_, total}
@@ -17,7 +17,7 @@ use Rattle.settings.proofs.Heights.{total-le, total-suc}
 use Rattle.settings.proofs.Accepted.{within}
 use Rattle.layouts.specs.declared.layout.Layout.{Layout}
 use Rattle.layouts.specs.Layout.{widthAt, offsetAt}
-use Rattle.layouts.specs.Refusals.{badPitch, leastPitch, layoutNo}
+use Rattle.layouts.specs.Refusals.{leastPitch, layoutNo}
 use Rattle.layouts.specs.Room.{mostOffset}
 use Rattle.layouts.proofs.Choices.{cond-yes}
 use Rattle.layouts.proofs.Layouts.{pitch-fine, allowed, levels-le, offset-le}

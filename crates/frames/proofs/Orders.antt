@@ -1,11 +1,10 @@
 -- Three calls of `build_plane`, each for a plane in its part, in any order of the planes: where the one call isn't refused none of them is, and they leave what it leaves. First one call; then the three; last about `build_frame` itself, and that a refusal changes nothing. Assumes nothing.
 use mathlib.Core.Path.{_≡_, refl, sym, ap, _∙_}
-use mathlib.Core.Bool.{false, cond}
+use mathlib.Core.Bool.{false}
 use mathlib.Core.List.{List, _++_}
 use Prim.Native.Nat.{ℕ, suc, _≤_}
 use native.Mathlib.Omega.{arith}
-use lib.Dec.{eqb}
-use borrow.Author.Tests.{le-ltb, ne-eqb}
+use borrow.Author.Tests.{le-ltb}
 use contract.Lifetimes.{Lfts}
 use denote.Ref.{now}
 use lib.ListN.{length, take, drop, replicate, length-replicate}
@@ -17,10 +16,9 @@ use Rattle.layouts.specs.declared.layout.Layout.{Layout}
 use Rattle.layouts.specs.Layout.{widthAt}
 use Rattle.layouts.specs.Refusals.{badPitch, lentNo, buildNo}
 use Rattle.layouts.specs.Room.{Ready}
-use Rattle.layouts.proofs.Choices.{cond-no}
 use Rattle.planes.specs.Build.{builtFrame, planeNo}
 use Rattle.frames.specs.Parts.{planeOf, lengthOf, startOf}
-use Rattle.frames.specs.Build.{three, buildFrameNo, partBytes, partBuilt, frameLeft, FrameLeaves, Lent, PlaneCall, Once}
+use Rattle.frames.specs.Build.{three, buildFrameNo, partBytes, partBuilt, frameLeft, FrameLeaves, Lent, PlaneCall, ByCalls}
 use Rattle.frames.proofs.Prepared.{Granted, granted}
 use Rattle.frames.proofs.Laid.{start-mono}
 use Rattle.frames.proofs.Joined.{Cut, cut, cut-long, changed, built-cut, part-long, all-left}
@@ -67,36 +65,40 @@ module _ (r : SuperOpts) (src : ℕ → List ℕ) (sp : ℕ → ℕ) {len s x : 
 done-answer : {A : Type 0} {n m : ℕ} {a b : A} → n ≡ 0 → m ≡ 0 → a ≡ b → (none : A) → answer n a ≡ ifDone m b none
 done-answer {a = a} {b = b} e z is none = ap (λ (k : ℕ). answer k a) e ∙ ap (answer 0) is ∙ given _ b none z
 
-pub any-order : (r : SuperOpts) (src : ℕ → List ℕ) (sp : ℕ → ℕ) {i j k : ℕ} → Once i j k → {l m n : ℕ} {a b c d : Lent} → buildFrameNo r (λ t. length (src t)) sp (length (a .frame)) (length (a .spill)) (length (a .scratch)) ≡ 0 → PlaneCall r src sp i l a b → PlaneCall r src sp j m b c → PlaneCall r src sp k n c d → (l ≡ 0) × (m ≡ 0) × FrameLeaves r src sp (a .frame) (a .spill) (a .scratch) n (d .frame) (d .spill) (d .scratch)
-any-order r src sp {i} {j} {k} o {a = a} {d = d} e first second third =
-    let g = granted r (λ t. length (src t)) sp (length (a .frame)) (length (a .spill)) (length (a .scratch)) e in
-    let at = cut r (a .frame) (g .end) in
-    let one = goes r src sp g i (o .first) (record { frame = at; spill = refl; scratch = refl }) first in
-    let two = goes r src sp g j (o .second) (again one) second in
-    let three = goes r src sp g k (o .third) (again two) third in
-    let left = all-left r src sp (a .frame) o (three .frame) in
-    (one .number, two .number, (done-answer (three .number) e left (a .frame), done-answer (three .number) e (three .spill) (a .spill), done-answer (three .number) e (three .scratch) (a .scratch)))
+module _ (r : SuperOpts) (src : ℕ → List ℕ) (sp : ℕ → ℕ) {a : Lent} where
+  -- where the one call isn't refused
+  pub any-order : {d : Lent} → buildFrameNo r (λ t. length (src t)) sp (length (a .frame)) (length (a .spill)) (length (a .scratch)) ≡ 0 → (c : ByCalls r src sp a d) → (c .numbers 0 ≡ 0) × (c .numbers 1 ≡ 0) × FrameLeaves r src sp (a .frame) (a .spill) (a .scratch) (c .numbers 2) (d .frame) (d .spill) (d .scratch)
+  any-order e c =
+      let g = granted r (λ t. length (src t)) sp (length (a .frame)) (length (a .spill)) (length (a .scratch)) e in
+      let one = goes r src sp g (c .i) (c .order .first) (record { frame = cut r (a .frame) (g .end); spill = refl; scratch = refl }) (c .first) in
+      let two = goes r src sp g (c .j) (c .order .second) (again one) (c .second) in
+      let all = goes r src sp g (c .k) (c .order .third) (again two) (c .third) in
+      let left = all-left r src sp (a .frame) (c .order) (all .frame) in
+      (one .number, two .number, (done-answer (all .number) e left (a .frame), done-answer (all .number) e (all .spill) (a .spill), done-answer (all .number) e (all .scratch) (a .scratch)))
+
+  module _ {n : ℕ} {F S X : List ℕ} (l : FrameLeaves r src sp (a .frame) (a .spill) (a .scratch) n F S X) where
+    pub left-by-calls : n ≡ 0 → (d : Lent) → ByCalls r src sp a d → (F ≡ d .frame) × (S ≡ d .spill) × (X ≡ d .scratch)
+    left-by-calls done d c =
+        let none = sym (number-of (l .0)) ∙ done in
+        let all = any-order none c .2 in
+        (same _ _ (l .0) (all .0) none, same _ _ (l .1) (all .1) none, same _ _ (l .2) (all .2) none)
+      where
+        same : {k m : ℕ} {x y : List ℕ} (v none : List ℕ) → answer n x ≡ ifDone k v none → answer m y ≡ ifDone k v none → k ≡ 0 → x ≡ y
+        same v none p q e = value-done v none p e ∙ sym (value-done v none q e)
+
+    -- "A refusal in any plane leaves all three untouched", and spill and scratch too
+    pub left-as-it-was : (n ≡ 0 → ⊥) → (F ≡ a .frame) × (S ≡ a .spill) × (X ≡ a .scratch)
+    left-as-it-was some = (kept _ (l .0), kept _ (l .1), kept _ (l .2))
+      where
+        kept : {k : ℕ} {x none : List ℕ} (v : List ℕ) → answer n x ≡ ifDone k v none → x ≡ none
+        kept v p = value-refused v _ p (λ e. some (number-of p ∙ e))
 
 -- ---- about the call: frame, spill, scratch, record, and source and source pitch of Y, U and V
 pub build-frame-contract : (κs : Lfts 6) → Contract (build-frame-reads.Post κs) (λ x t e. FrameLeaves (x .1 .1 .1 .0) (three (now (x .1 .1 .1 .1 .0)) (now (x .1 .1 .1 .1 .1 .1 .0)) (now (x .1 .1 .1 .1 .1 .1 .1 .1 .0))) (three (x .1 .1 .1 .1 .1 .0) (x .1 .1 .1 .1 .1 .1 .1 .0) (x .1 .1 .1 .1 .1 .1 .1 .1 .1 .0)) (now (x .0)) (now (x .1 .0)) (now (x .1 .1 .0)) (tested t) (now (e .0)) (now (e .1 .0)) (now (e .1 .1 .0)))
 build-frame-contract κs x t e = both-ways
 
--- what a call that is done leaves is what three calls of `build_plane` leave
-pub frame-by-calls : (κs : Lfts 6) → Promises (build-frame-reads.Post κs) (λ x t e. tested t ≡ 0 → (i j k : ℕ) → Once i j k → (l m n : ℕ) (b c d : Lent) → PlaneCall (x .1 .1 .1 .0) (three (now (x .1 .1 .1 .1 .0)) (now (x .1 .1 .1 .1 .1 .1 .0)) (now (x .1 .1 .1 .1 .1 .1 .1 .1 .0))) (three (x .1 .1 .1 .1 .1 .0) (x .1 .1 .1 .1 .1 .1 .1 .0) (x .1 .1 .1 .1 .1 .1 .1 .1 .1 .0)) i l (record { frame = now (x .0); spill = now (x .1 .0); scratch = now (x .1 .1 .0) }) b → PlaneCall (x .1 .1 .1 .0) (three (now (x .1 .1 .1 .1 .0)) (now (x .1 .1 .1 .1 .1 .1 .0)) (now (x .1 .1 .1 .1 .1 .1 .1 .1 .0))) (three (x .1 .1 .1 .1 .1 .0) (x .1 .1 .1 .1 .1 .1 .1 .0) (x .1 .1 .1 .1 .1 .1 .1 .1 .1 .0)) j m b c → PlaneCall (x .1 .1 .1 .0) (three (now (x .1 .1 .1 .1 .0)) (now (x .1 .1 .1 .1 .1 .1 .0)) (now (x .1 .1 .1 .1 .1 .1 .1 .1 .0))) (three (x .1 .1 .1 .1 .1 .0) (x .1 .1 .1 .1 .1 .1 .1 .0) (x .1 .1 .1 .1 .1 .1 .1 .1 .1 .0)) k n c d → (now (e .0) ≡ d .frame) × (now (e .1 .0) ≡ d .spill) × (now (e .1 .1 .0) ≡ d .scratch))
-frame-by-calls κs x t e p done i j k o l m n b c d first second third =
-    let one = build-frame-contract κs x t e .0 p in
-    let none = sym (number-of (one .0)) ∙ done in
-    let all = any-order (x .1 .1 .1 .0) (three (now (x .1 .1 .1 .1 .0)) (now (x .1 .1 .1 .1 .1 .1 .0)) (now (x .1 .1 .1 .1 .1 .1 .1 .1 .0))) (three (x .1 .1 .1 .1 .1 .0) (x .1 .1 .1 .1 .1 .1 .1 .0) (x .1 .1 .1 .1 .1 .1 .1 .1 .1 .0)) o none first second third .2 in
-    let left = frameLeft (x .1 .1 .1 .0) (three (now (x .1 .1 .1 .1 .0)) (now (x .1 .1 .1 .1 .1 .1 .0)) (now (x .1 .1 .1 .1 .1 .1 .1 .1 .0))) (three (x .1 .1 .1 .1 .1 .0) (x .1 .1 .1 .1 .1 .1 .1 .0) (x .1 .1 .1 .1 .1 .1 .1 .1 .1 .0)) (now (x .0)) in
-    let zeros : List ℕ → List ℕ = λ lent. replicate (length lent) 0 in (
-      value-done left (now (x .0)) (one .0) none ∙ sym (value-done left (now (x .0)) (all .0) none),
-      value-done (zeros (now (x .1 .0))) (now (x .1 .0)) (one .1) none ∙ sym (value-done (zeros (now (x .1 .0))) (now (x .1 .0)) (all .1) none),
-      value-done (zeros (now (x .1 .1 .0))) (now (x .1 .1 .0)) (one .2) none ∙ sym (value-done (zeros (now (x .1 .1 .0))) (now (x .1 .1 .0)) (all .2) none),
-    )
+pub frame-by-calls : (κs : Lfts 6) → Promises (build-frame-reads.Post κs) (λ x t e. tested t ≡ 0 → (d : Lent) → ByCalls (x .1 .1 .1 .0) (three (now (x .1 .1 .1 .1 .0)) (now (x .1 .1 .1 .1 .1 .1 .0)) (now (x .1 .1 .1 .1 .1 .1 .1 .1 .0))) (three (x .1 .1 .1 .1 .1 .0) (x .1 .1 .1 .1 .1 .1 .1 .0) (x .1 .1 .1 .1 .1 .1 .1 .1 .1 .0)) (record { frame = now (x .0); spill = now (x .1 .0); scratch = now (x .1 .1 .0) }) d → (now (e .0) ≡ d .frame) × (now (e .1 .0) ≡ d .spill) × (now (e .1 .1 .0) ≡ d .scratch))
+frame-by-calls κs x t e p = left-by-calls _ _ _ (build-frame-contract κs x t e .0 p)
 
--- "A refusal in any plane leaves all three untouched", and spill and scratch too
 pub refused-kept : (κs : Lfts 6) → Promises (build-frame-reads.Post κs) (λ x t e. (tested t ≡ 0 → ⊥) → (now (e .0) ≡ now (x .0)) × (now (e .1 .0) ≡ now (x .1 .0)) × (now (e .1 .1 .0) ≡ now (x .1 .1 .0)))
-refused-kept κs x t e p some =
-    let one = build-frame-contract κs x t e .0 p in
-    let no : buildFrameNo _ _ _ _ _ _ ≡ 0 → ⊥ = λ z. some (number-of (one .0) ∙ z) in
-    (value-refused (frameLeft (x .1 .1 .1 .0) (three (now (x .1 .1 .1 .1 .0)) (now (x .1 .1 .1 .1 .1 .1 .0)) (now (x .1 .1 .1 .1 .1 .1 .1 .1 .0))) (three (x .1 .1 .1 .1 .1 .0) (x .1 .1 .1 .1 .1 .1 .1 .0) (x .1 .1 .1 .1 .1 .1 .1 .1 .1 .0)) (now (x .0))) (now (x .0)) (one .0) no, value-refused (replicate (length (now (x .1 .0))) 0) (now (x .1 .0)) (one .1) no, value-refused (replicate (length (now (x .1 .1 .0))) 0) (now (x .1 .1 .0)) (one .2) no)
+refused-kept κs x t e p = left-as-it-was _ (three (now (x .1 .1 .1 .1 .0)) (now (x .1 .1 .1 .1 .1 .1 .0)) (now (x .1 .1 .1 .1 .1 .1 .1 .1 .0))) (three (x .1 .1 .1 .1 .1 .0) (x .1 .1 .1 .1 .1 .1 .1 .0) (x .1 .1 .1 .1 .1 .1 .1 .1 .1 .0)) (build-frame-contract κs x t e .0 p)

@@ -80,3 +80,16 @@ pub record Once (i j k : ℕ) : Type 0 where
   pub second : j ≤ 2
   pub third : k ≤ 2
   pub apart : (i ≡ j → ⊥) × (i ≡ k → ⊥) × (j ≡ k → ⊥)
+
+-- one for each plane, in any order, what is lent going from call to call
+pub record ByCalls (r : SuperOpts) (src : ℕ → List ℕ) (sp : ℕ → ℕ) (before after : Lent) : Type 0 where
+  pub i : ℕ
+  pub j : ℕ
+  pub k : ℕ
+  pub order : Once i j k
+  pub numbers : ℕ → ℕ
+  pub b : Lent
+  pub c : Lent
+  pub first : PlaneCall r src sp i (numbers 0) before b
+  pub second : PlaneCall r src sp j (numbers 1) b c
+  pub third : PlaneCall r src sp k (numbers 2) c after
