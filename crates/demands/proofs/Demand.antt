@@ -12,10 +12,9 @@ use lib.Dec.{ltb}
 use lib.ListN.{length, replicate, length-replicate}
 use borrow.Author.Tests.{le-ltb}
 use contract.Lifetimes.{Lfts}
-use denote.Ref.{now}
 use Rattle.settings.specs.declared.super_opts.SuperOpts.{SuperOpts}
 use Rattle.settings.specs.Numbers.{refuse, _then_}
-use Rattle.settings.specs.Answers.{Answer, answer, tested, checked, checkAnswer, packed, packAnswer, told, readAnswer}
+use Rattle.settings.specs.Answers.{answer, checked, checkAnswer, packed, packAnswer, told, readAnswer}
 use Rattle.settings.specs.Reading.{Packs, alike}
 use Rattle.settings.proofs.Outcome.{Contract, both-ways, Promises}
 use Rattle.settings.proofs.Refusals.{then-first, then-rest}
@@ -28,7 +27,7 @@ use Rattle.settings.proofs.word.prepare_alike.Reads as prepare-alike-reads
 use Rattle.layouts.specs.declared.layout.Layout.{Layout}
 use Rattle.layouts.specs.Layout.{widthAt, writtenEnd, spillNeed, scratchNeed}
 use Rattle.layouts.specs.Refusals.{badPitch, layoutNo, sourceNeed, lentNo, buildNo}
-use Rattle.planes.specs.Build.{frameBy, planeNo, LeavesBy, BuildLeaves}
+use Rattle.planes.specs.Build.{frameBy, planeNo, LeavesBy}
 use Rattle.demands.specs.Demands.{Inputs, withLayout, SameBuild, Differ, withDown, withUp, HalvingDiffers, UpscaleDiffers, Demand3, PacksTo, CallLeaves, leaves, Leaves}
 use Rattle.demands.proofs.Alike.{alike-build}
 use Rattle.demands.proofs.Demanded.{then-none, refuse-none, reads-met}

@@ -11,7 +11,6 @@ use lib.IntN.{ℤ, pos}
 use lib.ListN.{length, getD, replicate, length-replicate}
 use borrow.Author.Tests.{le-ltb, leb-true, not-true}
 use Rattle.settings.specs.declared.super_opts.SuperOpts.{SuperOpts}
-use Rattle.settings.specs.Limits.{mostPitch}
 use Rattle.settings.specs.Numbers.{isNat, toNat, refuse, _then_}
 use Rattle.settings.specs.Sizes.{reduced}
 use Rattle.settings.specs.Check.{accepted, pelOf, lumaW, lumaH, levelCount}
@@ -28,7 +27,7 @@ use Rattle.filters.specs.declared.half_pel.Upscale.the-variants.{Means, Kernel}
 use Rattle.filters.specs.Halve.{chosen}
 use Rattle.filters.specs.Refine.{upscale}
 use Rattle.layouts.specs.Layout.{widthAt, heightAt, offsetAt, writtenEnd, spillNeed, scratchNeed}
-use Rattle.layouts.specs.Refusals.{badPitch, leastPitch, layoutNo, sourceNeed, lentNo, buildNo}
+use Rattle.layouts.specs.Refusals.{leastPitch, layoutNo, sourceNeed, lentNo, buildNo}
 use Rattle.layouts.proofs.Layouts.{pitch-fine}
 use Rattle.layouts.proofs.Loops.{row-in}
 use Rattle.layouts.proofs.Stored.{pel-more}

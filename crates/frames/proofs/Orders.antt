@@ -18,7 +18,7 @@ use Rattle.layouts.specs.Refusals.{badPitch, lentNo, buildNo}
 use Rattle.layouts.specs.Room.{Ready}
 use Rattle.planes.specs.Build.{builtFrame, planeNo}
 use Rattle.frames.specs.Parts.{planeOf, lengthOf, startOf}
-use Rattle.frames.specs.Build.{three, buildFrameNo, partBytes, partBuilt, frameLeft, FrameLeaves, Lent, PlaneCall, ByCalls}
+use Rattle.frames.specs.Build.{three, buildFrameNo, partBytes, partBuilt, FrameLeaves, Lent, PlaneCall, ByCalls}
 use Rattle.frames.proofs.Prepared.{Granted, granted}
 use Rattle.frames.proofs.Laid.{start-mono}
 use Rattle.frames.proofs.Joined.{Cut, cut, cut-long, changed, built-cut, part-long, all-left}

@@ -1,6 +1,6 @@
 -- A build, whole: what the refusals leave; level 0's rows and planes lie in the frame; the stages one after the other; and what is left. Assumes nothing.
 use mathlib.Core.Path.{_≡_, refl, sym, ap, subst, _∙_}
-use mathlib.Core.Bool.{Bool, true, false, cond, _&&_, _||_}
+use mathlib.Core.Bool.{Bool, true, false, cond, _&&_}
 use mathlib.Core.List.{List, _++_}
 use mathlib.Core.Logic.{_⊎_, inl}
 use Prim.Native.Nat.{ℕ, _+_, _*_, _-_, _≤_, _<_}
@@ -10,12 +10,11 @@ use lib.Dec.{ltb, eqb}
 use lib.ListN.{length, take, replicate}
 use lib.Seq.{take-at}
 use borrow.Author.Tests.{ltb-false, ne-eqb}
-use Rattle.settings.specs.Limits.{mostPitch}
 use Rattle.settings.specs.Numbers.{refuse, _then_, toNat}
 use Rattle.settings.specs.Check.{pelOf}
 use Rattle.settings.specs.declared.refusal.Tested.{Tested}
 use Rattle.settings.specs.Answers.{Answer, answer, tested}
-use Rattle.settings.proofs.Tests.{and-left, and-right, or-false-left, or-false-right}
+use Rattle.settings.proofs.Tests.{and-left, and-right}
 use Rattle.settings.proofs.Refusals.{then-first, then-rest, refuse-not}
 use Rattle.settings.proofs.Known.{given}
 use Rattle.settings.proofs.Outcome.{determined}
