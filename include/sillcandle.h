@@ -38,16 +38,19 @@
 
    Levels. Reducing once makes a side d into 2 * floor(d / 4). Level k has the picture's sides reduced k times; a record's levels
    are how many, from 0 on, have both sides at least 4. Level 0 is stored as pel * pel planes if full, else not at all; each later
-   level is one plane. Plane y * pel + x of level 0 lies x/pel of a sample to the right and y/pel down; plane 0 is the picture.
+   level is one plane. Plane y * pel + x of level 0 lies x/pel of a sample to the right and y/pel down; plane 0 is the picture. At
+   their edges the planes between aren't held to the picture: a first or last row or a last column may be a copy, a mean with the next
+   bytes in the frame, or left as it was, as in the Rust.
 
    Layouts. A plane of the picture is laid out by a record, two shifts and a pitch: its level k has (width >> x_shift) by
    (height >> y_shift) bytes, width and height being level k's. A shift is 0 for a plane of the picture's own size and 1 for one of
-   half its width or height. Rows of a frame begin pitch bytes apart.
+   half its width or height. Rows of a frame begin pitch bytes apart. Where the pitch isn't a multiple of 16, the planes between may run
+   over into the first bytes of what follows them, another plane or level 1, as in the Rust; so bytes of rows go by the pitch.
 
    Three planes. A picture of Y, U and V has one frame of three parts, Y's, U's and V's, which follow each other from its first byte on.
    Y is laid out by shifts 0, 0 and the picture's width as pitch, U and V by shifts 1, 1 and floor(width / 2); a part is as long as its
    plane's written end. So no pitch of the frame is asked for: those that are handed in are the sources'. A record has such a frame if it
-   is full and both sides are at least 2.
+   is full and both sides are at least 2; with a side of 2 or 3 it has no level, and is 0 bytes long.
 
    No call allocates, keeps a pointer, prints, or has a state: calls with slices of their own may run at the same time. */
 #ifndef SILLCANDLE_H
@@ -218,7 +221,8 @@ uint32_t sill_row(size_t frame_length, const int32_t *record, size_t record_coun
 
 /* Builds a plane in the frame from the source, whose rows begin src_pitch bytes apart. What spill and scratch held has no effect;
    after a finished build they are zero throughout. Frame bytes that no rule writes stay. What the frame held can reach the levels'
-   bytes, as in the Rust: zero it first where a build has to be repeatable.
+   bytes, as in the Rust: zero it first where a build has to be repeatable. In a frame that is longer than the written end bytes past it
+   may be written: where something follows the plane, lend just its part.
    Numbers: 6 SILL_NO_RECORD, 7 SILL_BAD_SHIFT, 8 SILL_BAD_PITCH, 9 SILL_BAD_SOURCE_PITCH, 10 SILL_BAD_SOURCE, 11 SILL_BAD_FRAME, 12 SILL_BAD_SPILL,
    13 SILL_BAD_SCRATCH. */
 uint32_t sill_build_plane(uint8_t *frame, size_t frame_count, uint8_t *spill, size_t spill_count, uint8_t *scratch, size_t scratch_count,
@@ -244,7 +248,8 @@ uint32_t sill_frame_row(size_t frame_length, const int32_t *record, size_t recor
    past the third part stay. What is said at sill_build_plane of spill, scratch and earlier bytes holds here.
    Numbers, in the order in which they are looked for: 6 SILL_NO_RECORD, 23 SILL_NO_CHROMA, 24 SILL_NOT_FULL; 9 SILL_BAD_SOURCE_PITCH of
    Y, U or V; 10 SILL_BAD_SOURCE of Y, U or V; 11 SILL_BAD_FRAME, shorter than the three parts together; 12 SILL_BAD_SPILL;
-   13 SILL_BAD_SCRATCH, by the pitch of Y. */
+   13 SILL_BAD_SCRATCH, by the pitch of Y. Which plane 9 or 10 is for isn't told; its rows and columns are its own level 0's, of U and V
+   floor(height / 2) and floor(width / 2). */
 uint32_t sill_build_frame(uint8_t *frame, size_t frame_count, uint8_t *spill, size_t spill_count, uint8_t *scratch, size_t scratch_count,
                           const int32_t *record, size_t record_count, const uint8_t *y, size_t y_count, size_t y_pitch,
                           const uint8_t *u, size_t u_count, size_t u_pitch, const uint8_t *v, size_t v_count, size_t v_pitch);

@@ -27,7 +27,7 @@ static const char help[] =
     "  --gpu N        0, 1 or 2: at 2 the planes between are left to the GPU; up counts only at 0 (default 1)\n"
     "  --down N       how levels are halved: 0 or 1 average, 2 bilinear, 3 quadratic, 4 cubic (default 4)\n"
     "  --up N         how planes between are made: 0 bilinear, 1 bicubic, any other Wiener (default 2)\n"
-    "  --full yes|no  whether level 0 is kept (default yes)\n"
+    "  --full yes|no  whether level 0 is kept; no is for a PGM alone (default yes)\n"
     "  --rc yes|no    a mark in the word, without effect on the build (default no)\n"
     "  --lean yes|no  likewise, and the super frame is said to be 2 high (default no)\n"
     "Layout, for a PGM alone: the planes of a Y4M have pitches and shifts of their own:\n"

@@ -116,7 +116,9 @@ picture opened(const char *name) {
     switch (getc(p.file)) {
     case 'P': pgm_header(&p); break;
     case 'Y': y4m_header(&p); break;
-    default: neither(&p);
+    default:
+        if (ferror(p.file)) unusable("%s: %s", name, strerror(errno));
+        neither(&p);
     }
     return p;
 }

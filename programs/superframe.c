@@ -91,6 +91,7 @@ static void done_with_layout(uint32_t number, const layout *p) {
 }
 
 static void done_with_parts(uint32_t number, const int32_t *record) {
+    if (number == SILL_NOT_FULL) refused(number, "%s", "; given: --full no, which is for a PGM alone");
     if (number == SILL_NO_CHROMA) refused(number, "; given: %" PRId32 "x%" PRId32, record[SILL_AT_WIDTH], record[SILL_AT_HEIGHT]);
     done(number);
 }
