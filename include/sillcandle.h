@@ -44,8 +44,9 @@
 
    Layouts. A plane of the picture is laid out by a record, two shifts and a pitch: its level k has (width >> x_shift) by
    (height >> y_shift) bytes, width and height being level k's. A shift is 0 for a plane of the picture's own size and 1 for one of
-   half its width or height. Rows of a frame begin pitch bytes apart. Where the pitch isn't a multiple of 16, the planes between may run
-   over into the first bytes of what follows them, another plane or level 1, as in the Rust; so bytes of rows go by the pitch.
+   half its width or height. Rows of a frame begin pitch bytes apart. Where the pitch is below level 0's width raised to a multiple of 16,
+   the planes between may run over into the first bytes of what follows them, another plane or level 1, as in the Rust; so bytes of rows
+   go by the pitch.
 
    Three planes. A picture of Y, U and V has one frame of three parts, Y's, U's and V's, which follow each other from its first byte on.
    Y is laid out by shifts 0, 0 and the picture's width as pitch, U and V by shifts 1, 1 and floor(width / 2); a part is as long as its
