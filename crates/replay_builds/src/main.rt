@@ -42,6 +42,7 @@ fn answer_all(source: &mut [u8], frame: &mut [u8], spill: &mut [u8], scratch: &m
     }
 }
 
+// The parts are written from 0 on: of such ones the checker finds by itself that they are as long as they say.
 fn answer_one(source: &mut [u8], frame: &mut [u8], spill: &mut [u8], scratch: &mut [u8]) -> bool {
     let mut head = [0u8; 96];
     if io::read_full(STDIN_FILENO, &mut head) < 96 {
@@ -65,10 +66,10 @@ fn answer_one(source: &mut [u8], frame: &mut [u8], spill: &mut [u8], scratch: &m
     }
     answer(
         &head,
-        &mut source[..sources],
-        &mut frame[..frames],
-        &mut spill[..spills],
-        &mut scratch[..scratches],
+        &mut source[0..sources],
+        &mut frame[0..frames],
+        &mut spill[0..spills],
+        &mut scratch[0..scratches],
     )
 }
 
