@@ -105,5 +105,8 @@ start-mono r (suc (suc zero)) le = omega arith
 start-mono r (suc (suc (suc zero))) le = omega arith
 start-mono r (suc (suc (suc (suc k)))) le = absurd (omega (arith, le))
 
+pub part-ends : (r : SuperOpts) (k : ℕ) → k ≤ 2 → startOf r k + lengthOf r k ≤ startOf r 3
+part-ends r k le = omega (arith, start-next r k, start-mono r (k + 1) (omega (arith, le)))
+
 pub start-le : (r : SuperOpts) → planesNo r ≡ 0 → (k : ℕ) → startOf r k ≤ k * mostOffset
 start-le r e k = total-le (lengthOf r) mostOffset k (length-le r e)

@@ -2,7 +2,7 @@
 use mathlib.Core.Path.{_≡_, refl, sym, ap, _∙_}
 use mathlib.Core.Bool.{false}
 use mathlib.Core.List.{List}
-use Prim.Native.Nat.{ℕ, zero, suc, _+_, _*_, _≤_, _<_}
+use Prim.Native.Nat.{ℕ, _+_, _*_, _≤_}
 use native.Mathlib.Omega.{arith}
 use lib.Dec.{leb, ltb}
 use lib.ListN.{length, take, drop}
@@ -21,13 +21,13 @@ use Rattle.layouts.specs.Answers.{runOf, noRun, placeAnswer}
 use Rattle.layouts.specs.Room.{mostOffset}
 use Rattle.layouts.proofs.Layouts.{then-kept, row-ends}
 use Rattle.frames.specs.Parts.{planeOf, lengthOf, startOf, joinedEnd, planesNo, partNo, rowInNo, runInOf, placeInAnswer, rowInPart, rowInFrom}
-use Rattle.frames.proofs.Laid.{laid-out, length-le, start-next, start-le}
+use Rattle.frames.proofs.Laid.{laid-out, length-le, part-ends, start-le}
 
 -- ---- a part that isn't refused
 pub record There (r : SuperOpts) (len k : ℕ) : Type 0 where
   pub planes : planesNo r ≡ 0
   pub end : joinedEnd r ≤ len
-  pub part : k < 3
+  pub part : k ≤ 2
 
 pub there : (r : SuperOpts) (len k : ℕ) → partNo r len k ≡ 0 → There r len k
 there r len k e =
@@ -37,14 +37,8 @@ there r len k e =
     record {
       planes = then-first (planesNo r) short first;
       end = ltb-false len (joinedEnd r) (refuse-not (ltb len (joinedEnd r)) 10 (then-rest (planesNo r) short first));
-      part = leb-false 3 k (refuse-not (leb 3 k) 18 (then-rest (planesNo r then short) none e));
+      part = omega (arith, leb-false 3 k (refuse-not (leb 3 k) 18 (then-rest (planesNo r then short) none e)));
     }
-
-part-ends : (r : SuperOpts) (k : ℕ) → k < 3 → startOf r k + lengthOf r k ≤ joinedEnd r
-part-ends r zero h = omega (arith, start-next r 0, start-next r 1, start-next r 2)
-part-ends r (suc zero) h = omega (arith, start-next r 1, start-next r 2)
-part-ends r (suc (suc zero)) h = omega (arith, start-next r 2)
-part-ends r (suc (suc (suc k))) h = absurd (omega arith)
 
 module _ (r : SuperOpts) (k l j y : ℕ) where
   -- ---- in a frame that is the part alone

@@ -4,7 +4,7 @@ use native.Mathlib.Omega.{arith}
 use lib.ListN.{length}
 use denote.Ref.{now}
 use borrow.Rule.Slice.PartMut.{same-len-mid}
-use Rattle.frames.proofs.Laid.{length-le, start-next, start-mono, start-le}
+use Rattle.frames.proofs.Laid.{length-le, part-ends, start-le}
 use Rattle.frames.proofs.Prepared.{part-ready}
 use Rattle.frames.proofs.Joined.{lent-long, part-back}
 use Rattle.frames.proofs.build.build_part.Statement.{statement}
@@ -14,7 +14,7 @@ use Rattle.frames.proofs.build.build_part.Tie as tie
 inside : (c : tie.After-part-length) → c .before .part-start .result + c .part-length .result ≤ length (now (c .before .before .before .before .before .before .args .frame))
 inside c =
     let s = c .before .before .before .before .before .before in
-    omega (arith, c .before .part-start .ensures, c .part-length .ensures, start-next (s .args .opts) (s .args .part), start-mono (s .args .opts) (s .args .part + 1) (omega (arith, s .pre .1)), s .pre .2)
+    omega (arith, c .before .part-start .ensures, c .part-length .ensures, part-ends (s .args .opts) (s .args .part) (s .pre .1), s .pre .2)
 
 part-start-requires : tie.Need-part-start-requires
 part-start-requires c κs = let p = c .before .before .before .before .pre in (p .0, omega (arith, p .1))

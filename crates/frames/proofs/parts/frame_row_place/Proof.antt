@@ -1,6 +1,5 @@
 -- `frame_row_place` meets its contract. Assumes nothing.
 use mathlib.Core.Path.{_≡_, sym, ap, _∙_}
-use native.Mathlib.Omega.{arith}
 use borrow.Author.Needs.{needs}
 use Rattle.settings.specs.Answers.{tested}
 use Rattle.frames.specs.Parts.{partNo}
@@ -21,7 +20,7 @@ place-in-requires : tie.Need-place-in-requires
 place-in-requires c κs =
     let s = c .before .before .before .args in
     let part = there (s .opts) (s .len) (s .part) (passed c) in
-    (part .planes, omega (arith, part .part))
+    (part .planes, part .part)
 
 enum-known-f : tie.Need-enum-known-f
 enum-known-f c = search needs
