@@ -19,7 +19,6 @@ use answers::told::told_numbers;
 use settings::refusal::Refusal;
 use settings::super_opts::Checked;
 use settings::super_opts::Packed;
-use settings::super_opts::Sized;
 use settings::super_opts::SuperOpts;
 use settings::word::Told;
 use settings::word::prepare_alike;
@@ -98,12 +97,8 @@ pub extern "C" fn sill_super_sizes(fields: &[i32], sizes: &mut [i32]) -> u32
     ensures { λ r. ⌜ answer r (now (sizes .exit)) ≡ sizesTells (recordOf (now (fields .entry))) (now (sizes .entry)) ⌝ }
 {
     let opts = record_of(fields);
-    let high = opts.super_height();
-    match opts.super_width() {
-        Sized::Size(width) => match high {
-            Sized::Size(height) => put_numbers(sizes, &[width, height]),
-            Sized::Refused(f) => lowest(f, sizes.len(), 2),
-        },
-        Sized::Refused(f) => lowest(f, sizes.len(), 2),
+    if !opts.accepted() {
+        return lowest(Refusal::NoRecord, sizes.len(), 2);
     }
+    put_numbers(sizes, &[opts.accepted_width(), opts.accepted_height()])
 }

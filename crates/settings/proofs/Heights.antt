@@ -2,11 +2,13 @@
 use mathlib.Core.Path.{_≡_, refl, ap, _∙_}
 use Prim.Native.Nat.{ℕ, zero, suc, _+_, _*_, _-_, _≤_}
 use native.Mathlib.Nat.{le-trans, mul-le-mul-left, mul-le-mul-right, suc-mul, div-le-self}
+use native.Mathlib.Numerals.{add-one}
 use native.Mathlib.Omega.{arith}
 use Rattle.settings.specs.Limits.{mostSide, mostLevels}
 use Rattle.settings.specs.Numbers.{total}
-use Rattle.settings.specs.Sizes.{reduced}
+use Rattle.settings.specs.Sizes.{reduce, reduced}
 use Rattle.settings.specs.Check.{upward}
+use Rattle.settings.proofs.Levels.{reduced-next}
 
 -- a product is bounded by the product of the bounds
 pub prod-le : {a b : ℕ} (A B : ℕ) → a ≤ A → b ≤ B → a * b ≤ A * B
@@ -34,19 +36,9 @@ heights h n = total (λ i. reduced h (i + 1)) n
 pub heights-le : (h n : ℕ) → heights h n ≤ n * h
 heights-le h n = total-le (λ i. reduced h (i + 1)) h n (λ i. reduced-le h (i + 1))
 
--- one level more
-pub heights-next : (h lv : ℕ) → 1 ≤ lv → heights h (lv + 1 - 1) ≡ heights h (lv - 1) + reduced h lv
-heights-next h zero p = absurd (omega arith)
-heights-next h (suc n) p = ap (heights h) (omega arith) ∙ total-suc (λ i. reduced h (i + 1)) n ∙ from-one
-  where
-    from-one : heights h n + reduced h (n + 1) ≡ heights h (suc n - 1) + reduced h (suc n)
-    from-one = rw (mid, one)
-      where
-        mid : suc n - 1 ≡ n
-        mid = omega arith
-
-        one : n + 1 ≡ suc n
-        one = omega arith
+-- one level more, its height reduced from the one before
+pub heights-next : (h n : ℕ) → heights h (n + 1) ≡ heights h n + reduce (reduced h n)
+heights-next h n = ap (heights h) (add-one n) ∙ total-suc (λ i. reduced h (i + 1)) n ∙ ap (λ (k : ℕ). heights h n + k) (reduced-next h n)
 
 -- ---- heights fit
 pub square-le : (pel h : ℕ) → pel ≤ 4 → h ≤ mostSide → pel * pel * h ≤ 16 * mostSide

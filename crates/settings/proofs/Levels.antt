@@ -1,4 +1,4 @@
--- Levels: one more where both sides are at least 4, none otherwise, and at most so many. Assumes nothing.
+-- Reducing: once more at the end, or at the start. Levels: one more where both sides are at least 4, none otherwise, and at most so many. Assumes nothing.
 use mathlib.Core.Path.{_≡_, refl, sym, ap, _∙_}
 use mathlib.Core.Bool.{Bool, true, false, cond, _&&_}
 use Prim.Native.Nat.{ℕ, zero, suc, _+_, _*_, _^_, _≤_, _<_}
@@ -13,6 +13,11 @@ use Rattle.settings.proofs.Tests.{and-no, cond-le}
 pub reduced-next : (d n : ℕ) → reduced d (n + 1) ≡ reduce (reduced d n)
 unfolding reduced
 reduced-next d n = rw add-one
+
+pub reduced-from : (d n : ℕ) → reduced (reduce d) n ≡ reduced d (suc n)
+unfolding reduced
+reduced-from d zero = refl
+reduced-from d (suc n) = ap reduce (reduced-from d n)
 
 pub levels-narrow : (k w h : ℕ) → w < 4 → levelsIn k w h ≡ 0
 unfolding levelsIn

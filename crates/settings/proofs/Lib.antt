@@ -2,7 +2,7 @@
 --     Tests      `&&`, `||`, `not`, a choice by a test, and tests that contradict each other
 --     Integers   an i32 by its bits
 --     Refusals   a row of refusals that gives none
---     Levels     levels of a size
+--     Levels     reducing once more, levels of a size
 --     Heights    sums of reduced heights, and that they fit
 --     Fields     the fields of a record fit i32
 --     Known      answers by their numbers

@@ -1,13 +1,14 @@
 // The settings check, the word and the super sizes: open-svpflow's super_opts.rs, its names kept.
 // First the types; then `SuperOpts::from_opt` and what it is made of; `accepted`; `pack_data`; the super sizes; and last reducing and levels.
 ghost use mathlib.Core.Path.{_≡_};
-ghost use mathlib.Core.Bool.{true, cond, not};
+ghost use mathlib.Core.Bool.{true, cond, not, _&&_, _||_};
 ghost use Prim.Native.Nat.{_+_, _*_, _<_, _≤_, _^_, max};
+ghost use lib.Dec.{eqb};
 ghost use lib.IntN.{pos};
 ghost use Rattle.settings.specs.Limits.{mostSide, mostLevels};
 ghost use Rattle.settings.specs.Numbers.{isNat, toNat, bit};
-ghost use Rattle.settings.specs.Sizes.{reduced, autoLevels};
-ghost use Rattle.settings.specs.Check.{intOr, boolOr, upBy, settled, isPel, isGpu, noFinest, badLean, isSide, settingsNo, naturalsOf, accepted, upward, raisedToEven, fullHeight, packedHeight};
+ghost use Rattle.settings.specs.Sizes.{reduce, reduced, autoLevels};
+ghost use Rattle.settings.specs.Check.{intOr, boolOr, upBy, settled, isPel, isGpu, noFinest, badLean, isSide, settingsNo, naturalsOf, accepted, upward, raisedToEven, fullHeight, packedHeight, superHeight, superWidth};
 ghost use Rattle.settings.specs.Word.{wordOf};
 ghost use Rattle.settings.specs.Answers.{tested, checked, checkAnswer, packed, packAnswer, sized, heightAnswer, widthAnswer};
 use crate::limits::MOST_PACKED;
@@ -199,14 +200,19 @@ impl SuperOpts {
                 | (self.scale_down != DEFAULT_SCALE_DOWN))
     }
 
+    // Whether the check can return this record, but for its levels: enough where these were counted from its own size.
+    pub fn is_settled(self) -> bool
+        ensures { λ r. ⌜ r ≡ (eqb (settingsNo self) 0 && (isNat (self .gpu) 0 || isNat (self .«scale_up») 0)) ⌝ }
+    {
+        let fine = self.tested().is_fine();
+        fine & ((self.gpu == 0) | (self.scale_up == 0))
+    }
+
     // Whether the check can return this record.
     pub fn accepted(self) -> bool
         ensures { λ r. ⌜ r ≡ accepted self ⌝ }
     {
-        let fine = self.tested().is_fine();
-        fine
-            & ((self.gpu == 0) | (self.scale_up == 0))
-            & (self.levels == levels_of(self.width, self.height))
+        self.is_settled() & (self.levels == levels_of(self.width, self.height))
     }
 
     pub fn naturals(self) -> Naturals
@@ -267,11 +273,7 @@ impl SuperOpts {
         if !self.accepted() {
             return Sized::Refused(Refusal::NoRecord);
         }
-        if self.lean {
-            return Sized::Size(2);
-        }
-        let n = self.naturals();
-        Sized::Size(super_plane_height(n.width, n.height, n.pel, n.levels, self.full) as i32)
+        Sized::Size(self.accepted_height())
     }
 
     pub fn super_width(self) -> Sized
@@ -280,10 +282,29 @@ impl SuperOpts {
         if !self.accepted() {
             return Sized::Refused(Refusal::NoRecord);
         }
-        if self.full {
-            return Sized::Size(self.width);
+        Sized::Size(self.accepted_width())
+    }
+
+    // The super sizes of an accepted record: for calls that have tested it.
+    pub fn accepted_height(self) -> i32
+        requires { ⌜ accepted self ≡ true ⌝ }
+        ensures { λ r. ⌜ r ≡ pos (superHeight self) ⌝ }
+    {
+        if self.lean {
+            return 2;
         }
-        Sized::Size(reduce_dim(natural(self.width), 1) as i32)
+        let n = self.naturals();
+        super_plane_height(n.width, n.height, n.pel, n.levels, self.full) as i32
+    }
+
+    pub fn accepted_width(self) -> i32
+        requires { ⌜ accepted self ≡ true ⌝ }
+        ensures { λ r. ⌜ r ≡ pos (superWidth self) ⌝ }
+    {
+        if self.full {
+            return self.width;
+        }
+        reduce_dim(natural(self.width), 1) as i32
     }
 }
 
@@ -307,31 +328,40 @@ pub fn levels_of(width: i32, height: i32) -> i32
     auto_levels(natural(width), natural(height)) as i32
 }
 
+pub fn reduce_once(dim: u32) -> u32
+    ensures { λ r. ⌜ r ≡ reduce dim ⌝ }
+{
+    2 * (dim / 4)
+}
+
 pub fn reduce_dim(dim: u32, n: u32) -> u32
     ensures { λ r. ⌜ r ≡ reduced dim n ⌝ }
 {
     let mut d = dim;
     for _ in 0..n {
-        d = 2 * (d / 4);
+        d = reduce_once(d);
     }
     d
 }
 
+// Each level's size is reduced from the one above it.
 fn auto_levels(width: u32, height: u32) -> u32
     ensures { λ r. ⌜ r ≡ autoLevels width height ⌝ }
 {
+    let mut w = width;
+    let mut h = height;
     let mut i = 0;
     loop {
-        let h = reduce_dim(height, i);
-        let w = reduce_dim(width, i);
         if (h < 4) | (w < 4) {
             return i;
         }
+        w = reduce_once(w);
+        h = reduce_once(h);
         i += 1;
     }
 }
 
-// Of a record that isn't lean: `super_height` has answered a lean one before.
+// Of a record that isn't lean: `accepted_height` has answered a lean one before.
 fn super_plane_height(base_w: u32, base_h: u32, pel: u32, levels: u32, full: bool) -> u32
     requires { ⌜ («base_w» ≤ mostSide) × («base_h» ≤ mostSide) × (pel ≤ 4) × (levels ≤ mostLevels) ⌝ }
     ensures { λ r. ⌜ (r ≡ cond full (fullHeight «base_h» pel levels) (packedHeight «base_w» «base_h»)) × (r < 2 ^ 31) ⌝ }
@@ -347,8 +377,10 @@ fn full_height(base_h: u32, pel: u32, levels: u32) -> u32
     ensures { λ r. ⌜ (r ≡ fullHeight «base_h» pel levels) × (r < 2 ^ 31) ⌝ }
 {
     let mut total = pel * pel * base_h;
-    for lv in 1..levels {
-        total += reduce_dim(base_h, lv);
+    let mut h = base_h;
+    for _ in 1..levels {
+        h = reduce_once(h);
+        total += h;
     }
     total
 }

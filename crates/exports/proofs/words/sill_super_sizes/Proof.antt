@@ -1,44 +1,50 @@
 -- `sill_super_sizes` meets its contract. Assumes nothing.
 use mathlib.Core.Path.{_≡_, refl, sym, ap, _∙_}
+use mathlib.Core.Bool.{true}
 use mathlib.Core.List.{List, [], _∷_}
 use Prim.Native.Nat.{ℕ}
-use lib.Dec.{ltb}
 use lib.IntN.{ℤ, pos}
-use lib.ListN.{length}
 use denote.Ref.{now}
-use borrow.Author.Needs.{needs, sfits-of}
-use Rattle.settings.specs.declared.refusal.Refusal.{Refusal}
+use borrow.Author.Needs.{needs}
+use Rattle.settings.specs.declared.refusal.Refusal.the-variants.{NoRecord}
 use Rattle.settings.specs.declared.super_opts.SuperOpts.{SuperOpts}
-use Rattle.settings.specs.Check.{superHeight, superWidth, recordNo}
-use Rattle.settings.specs.Answers.{answer, number, sized}
+use Rattle.settings.specs.Check.{accepted, superHeight, superWidth}
 use Rattle.settings.proofs.Integers.{same}
-use Rattle.answers.specs.Lent.{lowest}
+use Rattle.settings.proofs.Accepted.{no-record, is-record, record-none}
+use Rattle.answers.specs.Lent.{tells}
+use Rattle.answers.proofs.Telling.{tell-refused}
 use Rattle.exports.specs.Calls.{sizesTells}
-use Rattle.settings.proofs.Known.{number-of, value-given}
-use Rattle.answers.proofs.Telling.{tell-refused, tell-given}
 use Rattle.exports.proofs.words.sill_super_sizes.Statement.{statement}
 use Rattle.exports.proofs.words.sill_super_sizes.Tie as tie
 
 pair : {a b x y : ℤ} → a ≡ x → b ≡ y → _≡_ {A = List ℤ} (a ∷ b ∷ []) (x ∷ y ∷ [])
 pair e f = rw (e, f)
 
-refused : (f : Refusal) {n : ℕ} (r : SuperOpts) (lent : List ℤ) → number f ≡ recordNo r → n ≡ lowest (number f) (ltb (length lent) 2) → answer n lent ≡ sizesTells r lent
-refused f r lent e low = tell-refused f (pos (superWidth r) ∷ pos (superHeight r) ∷ []) lent e low refl
+passed : (c : tie.Else1) → accepted (c .before .before .record-of .result) ≡ true
+passed c = is-record (c .before .before .record-of .result) (c .before .accepted .result) (c .before .accepted .ensures) (c .if1 .left)
 
 record-of-requires : tie.Need-record-of-requires
 record-of-requires c κs = search needs
 
-super-height-requires : tie.Need-super-height-requires
-super-height-requires c κs = search needs
+accepted-requires : tie.Need-accepted-requires
+accepted-requires c κs = search needs
 
-super-width-requires : tie.Need-super-width-requires
-super-width-requires c κs = search needs
+lowest-requires : tie.Need-lowest-requires
+lowest-requires c κs = search needs
 
-enum-known-width : tie.Need-enum-known-width
-enum-known-width c = search needs
+returns : tie.Need-returns
+returns c =
+    let a = c .before .before in
+    let r = a .before .record-of .result in
+    let lent = now (a .before .before .args .sizes) in
+    tell-refused NoRecord (pos (superWidth r) ∷ pos (superHeight r) ∷ []) lent (no-record r (a .accepted .result) (a .accepted .ensures) (c .before .if1 .taken)) (c .lowest .ensures) refl
+    ∙ ap (λ (o : SuperOpts). sizesTells o lent) (a .before .record-of .ensures)
 
-enum-known-high : tie.Need-enum-known-high
-enum-known-high c = search needs
+accepted-width-requires : tie.Need-accepted-width-requires
+accepted-width-requires c κs = passed (c .before)
+
+accepted-height-requires : tie.Need-accepted-height-requires
+accepted-height-requires c κs = passed (c .before .before)
 
 slice-aggregate-put-numbers : tie.Need-slice-aggregate-put-numbers
 slice-aggregate-put-numbers c = search needs
@@ -46,64 +52,32 @@ slice-aggregate-put-numbers c = search needs
 put-numbers-requires : tie.Need-put-numbers-requires
 put-numbers-requires c κs = search needs
 
-enum-known-high-2 : tie.Need-enum-known-high-2
-enum-known-high-2 c = search needs
-
-lowest-requires : tie.Need-lowest-requires
-lowest-requires c κs = search needs
-
-enum-known-f : tie.Need-enum-known-f
-enum-known-f c = search needs
-
-lowest-requires-2 : tie.Need-lowest-requires-2
-lowest-requires-2 c κs = search needs
-
 same-length : tie.Need-same-length
 same-length c = search needs
 
-returns : tie.Need-returns
-returns c =
-    let wide = c .before .before .before .before .before .before .before .before .before .before in
-    let high = c .before .before .before .before .before .before .before .before .before .before .before in
-    let r = high .before .record-of .result in
-    let a = high .before .before .args in
-    let w = c .before .before .before .before .before .before .before .before .width .given in
-    let h = c .before .before .before .before .before .high .given in
-    tell-given (λ (z : ℤ). z ∷ pos (superHeight r) ∷ []) (now (a .sizes)) (pos (superWidth r)) (pos 0) (sym (ap sized (w .1)) ∙ wide .super-width .ensures)
-    (pair (same (w .0 .0) (sfits-of (c .before .before .before .before .before .before .before .known-told .given .0 .1))) (same (h .0 .0) (sfits-of (c .before .before .before .before .known-told2 .given .0 .1)) ∙ value-given (pos (superHeight r)) (pos 0) (sym (ap sized (h .1)) ∙ high .super-height .ensures)))
-    (c .before .put-numbers .ensures)
-    ∙ ap (λ (o : SuperOpts). sizesTells o (now (a .sizes))) (high .before .record-of .ensures)
-
 returns-2 : tie.Need-returns-2
 returns-2 c =
-    let high = c .before .before .before .before .before .before .before .before in
-    let a = high .before .before .args in
-    let f = c .before .before .high2 .given in
-    refused (f .0 .0) (high .before .record-of .result) (now (a .sizes)) (number-of (sym (ap sized (f .1)) ∙ high .super-height .ensures)) (c .lowest .ensures) ∙ ap (λ (o : SuperOpts). sizesTells o (now (a .sizes))) (high .before .record-of .ensures)
-
-returns-3 : tie.Need-returns-3
-returns-3 c =
-    let wide = c .before .before .before .before in
-    let a = wide .before .before .before .args in
-    let f = c .before .before .f .given in
-    refused (f .0 .0) (wide .before .before .record-of .result) (now (a .sizes)) (number-of (sym (ap sized (f .1)) ∙ wide .super-width .ensures)) (c .lowest2 .ensures) ∙ ap (λ (o : SuperOpts). sizesTells o (now (a .sizes))) (wide .before .before .record-of .ensures)
+    let high = c .before .before .before in
+    let wide = high .before in
+    let a = wide .before .before .before in
+    let r = a .before .record-of .result in
+    let lent = now (a .before .before .args .sizes) in
+    c .before .put-numbers .ensures
+    ∙ ap (λ (l : List ℤ). tells 0 l lent) (pair (same (wide .accepted-width .result) (search needs) ∙ wide .accepted-width .ensures) (same (high .accepted-height .result) (search needs) ∙ high .accepted-height .ensures))
+    ∙ ap (λ (n : ℕ). tells n (pos (superWidth r) ∷ pos (superHeight r) ∷ []) lent) (sym (record-none r (passed (wide .before .before))))
+    ∙ ap (λ (o : SuperOpts). sizesTells o lent) (a .before .record-of .ensures)
 
 pub sill-super-sizes-spec : {M : Type 1} → statement M
 sill-super-sizes-spec =
     tie.close
     (tie.spec
     record-of-requires
-    super-height-requires
-    super-width-requires
-    enum-known-width
-    enum-known-high
+    accepted-requires
+    lowest-requires
+    returns
+    accepted-width-requires
+    accepted-height-requires
     slice-aggregate-put-numbers
     put-numbers-requires
-    enum-known-high-2
-    lowest-requires
-    enum-known-f
-    lowest-requires-2
     same-length
-    returns
-    returns-2
-    returns-3)
+    returns-2)
