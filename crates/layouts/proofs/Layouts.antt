@@ -6,11 +6,11 @@ use Prim.Native.Nat.{ℕ, zero, suc, _+_, _*_, _/_, _^_, _≤_, _<_}
 use native.Mathlib.Nat.{le-trans, le-of-suc-le-suc, eq-or-lt-of-le, one-mul, div-le-self, div-eq-of-lt, pow-le-pow-right}
 use native.Mathlib.Numerals.{add-one}
 use native.Mathlib.Omega.{arith}
-use lib.Dec.{ltb, leb}
-use borrow.Author.Tests.{ltb-false, leb-false, lt-ltb, le-ltb, not-false}
+use lib.Dec.{ltb, leb, eqb}
+use borrow.Author.Tests.{eqb-true, ltb-false, leb-false, lt-ltb, le-ltb, not-false}
 use Rattle.settings.specs.Limits.{mostSide, mostPitch, mostLevels}
 use Rattle.settings.specs.declared.refusal.Refusal.{Refusal}
-use Rattle.settings.specs.Answers.{Answer, answer, number}
+use Rattle.settings.specs.Answers.{Answer, answer, ifDone, number}
 use Rattle.settings.specs.Numbers.{refuse, _then_, total}
 use Rattle.settings.specs.Sizes.{reduced}
 use Rattle.settings.specs.Check.{accepted, recordNo, lumaW, lumaH, pelOf}
@@ -20,11 +20,12 @@ use Rattle.settings.proofs.Heights.{prod-le, reduced-le, total-le, total-suc}
 use Rattle.settings.proofs.Known.{given, number-then}
 use Rattle.settings.proofs.Accepted.{within}
 use Rattle.layouts.specs.declared.layout.Layout.{Layout}
+use Rattle.layouts.specs.declared.rows.Run.{Run}
 use Rattle.layouts.specs.Layout.{levelsOf, writtenEnd, rowStart, regionAt, regionOr, noRegion, widthAt, heightAt, storedAt, bytesAt, offsetAt}
 use Rattle.layouts.specs.Refusals.{leastPitch, badPitch, layoutNo, frameNo, noRow, rowNo}
-use Rattle.layouts.specs.Answers.{endAnswer}
+use Rattle.layouts.specs.Answers.{endAnswer, noRun}
 use Rattle.layouts.specs.Room.{mostOffset}
-use Rattle.layouts.proofs.Choices.{cond-yes}
+use Rattle.layouts.proofs.Choices.{cond-yes, cond-no}
 use Rattle.layouts.proofs.Loops.{row-in}
 
 -- ---- what the refusals leave
@@ -238,9 +239,20 @@ row-ends q len l k y r =
     let t = there q l k y (r .none) in
     omega (arith, row-inside q l k y (t .plane) (t .row), level-end q l (t .level), r .frame .end, width-stored q (allowed q (r .frame .layout)) l k (t .plane))
 
--- ---- a level that is there
+-- where an answer says that a row lies ends in the frame, if it does where there is one
+pub run-ends : (n len : ℕ) (r : Run) → (n ≡ 0 → r .offset + r .length ≤ len) → ifDone n r noRun .value .offset + ifDone n r noRun .value .length ≤ len
+run-ends n len r h = go (eqb n 0) refl
+  where
+    go : (t : Bool) → eqb n 0 ≡ t → cond t r noRun .offset + cond t r noRun .length ≤ len
+    go true e = h (eqb-true n 0 e)
+    go false e = omega arith
+
+-- ---- a level that is there, or isn't
 pub region-there : (q : Layout) (l : ℕ) → l < levelsOf q → regionOr q l ≡ regionAt q l
 region-there q l lt = cond-yes (ltb l (levelsOf q)) (regionAt q l) noRegion (lt-ltb l (levelsOf q) lt)
+
+pub region-none : (q : Layout) (l : ℕ) → levelsOf q ≤ l → regionOr q l ≡ noRegion
+region-none q l le = cond-no (ltb l (levelsOf q)) (regionAt q l) noRegion (le-ltb l (levelsOf q) le)
 
 pub levels-le : (q : Layout) → Allowed q → levelsOf q ≤ mostLevels
 levels-le q a = within (q .opts) (a .good) .levels

@@ -12,6 +12,7 @@ use Rattle.settings.specs.Numbers.{toNat, isNat}
 use Rattle.settings.specs.Sizes.{reduce, reduced, levelsIn}
 use Rattle.settings.specs.Check.{accepted, pelOf, lumaW, lumaH}
 use Rattle.settings.proofs.Tests.{and-left, and-right, or-cases}
+use Rattle.settings.proofs.Levels.{reduced-from}
 use Rattle.settings.proofs.Accepted.{fine, sound, is-nat-pos}
 use Rattle.layouts.specs.declared.layout.Layout.{Layout}
 use Rattle.layouts.specs.Layout.{levelsOf, widthAt, heightAt, storedAt, bytesAt, offsetAt, writtenEnd, regionAt, spillNeed}
@@ -21,11 +22,6 @@ use Rattle.layouts.proofs.Loops.{row-in}
 use Rattle.layouts.proofs.Layouts.{Allowed, offset-next, level-end, bytes-later, width-half, height-half, width-first, width-later}
 
 -- ---- the sides of a level
-reduced-from : (d n : ℕ) → reduced (reduce d) n ≡ reduced d (suc n)
-unfolding reduced
-reduced-from d zero = refl
-reduced-from d (suc n) = ap reduce (reduced-from d n)
-
 some-cond : (t : Bool) (n l : ℕ) → l < cond t n 0 → (t ≡ true) × (l < n)
 some-cond true n l h = (refl, h)
 some-cond false n l h = absurd (omega arith)

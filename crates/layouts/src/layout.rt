@@ -3,6 +3,7 @@
 ghost use mathlib.Core.Path.{_≡_};
 ghost use Rattle.layouts.specs.Refusals.{layoutNo};
 ghost use Rattle.layouts.specs.Answers.{ended, endAnswer, laid, layoutAnswer, needed, needsAnswer};
+use crate::descent::Descent;
 use crate::lent;
 use crate::levels;
 use settings::limits::MOST_LEVELS;
@@ -73,17 +74,21 @@ impl Layout {
         let mut offsets = [0; MOST_LEVELS];
         let mut widths = [0; MOST_LEVELS];
         let mut heights = [0; MOST_LEVELS];
-        for i in 0..MOST_LEVELS {
-            let r = levels::region(self, i as u32);
+        let opts = self.opts;
+        let n = opts.naturals();
+        let levels = n.levels;
+        let mut at = Descent::top(self);
+        for level in 0..levels {
+            let r = at.region(self, level);
+            let i = level as usize;
             offsets[i] = r.offset;
             widths[i] = r.width;
             heights[i] = r.height;
+            at = at.next(self, level);
         }
-        let opts = self.opts;
-        let n = opts.naturals();
         Laid {
             tested: Tested::Fine,
-            count: n.levels as usize,
+            count: levels as usize,
             offsets,
             widths,
             heights,

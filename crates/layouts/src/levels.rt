@@ -6,6 +6,7 @@ ghost use Rattle.settings.specs.Limits.{mostLevels};
 ghost use Rattle.settings.specs.Answers.{tested};
 ghost use Rattle.layouts.specs.Layout.{widthAt, heightAt, storedAt, offsetAt, regionOr};
 ghost use Rattle.layouts.specs.Refusals.{leastPitch, badPitch, layoutNo, frameNo};
+use crate::descent::Descent;
 use crate::layout::Ended;
 use crate::layout::Layout;
 use crate::layout::Region;
@@ -96,11 +97,7 @@ pub fn offset(layout: Layout, level: u32) -> usize
     requires { ⌜ (layoutNo layout ≡ 0) × (level ≤ mostLevels) ⌝ }
     ensures { λ r. ⌜ r ≡ offsetAt layout level ⌝ }
 {
-    let mut offset = 0;
-    for above in 0..level {
-        offset += stored(layout, above) * height(layout, above) * layout.pitch;
-    }
-    offset
+    Descent::top(layout).down(layout, 0, level).offset
 }
 
 // Refusals 6, 7, 8 and 11.
@@ -127,9 +124,7 @@ pub fn region(layout: Layout, level: u32) -> Region
             height: 0,
         };
     }
-    Region {
-        offset: offset(layout, level),
-        width: width(layout, level),
-        height: height(layout, level),
-    }
+    Descent::top(layout)
+        .down(layout, 0, level)
+        .region(layout, level)
 }

@@ -1,19 +1,21 @@
 // A row of a frame: the number that says whether there is one, where it lies, and its bytes, which are the caller's own.
 ghost use mathlib.Core.Path.{_≡_};
-ghost use mathlib.Core.Bool.{false};
-ghost use lib.ListN.{length};
+ghost use Prim.Native.Nat.{_+_, _≤_, _<_};
+ghost use lib.ListN.{length, take, drop};
 ghost use denote.Ref.{ptr};
-ghost use Rattle.settings.specs.Answers.{tested};
+ghost use Rattle.settings.specs.Numbers.{refuse};
+ghost use Rattle.settings.specs.Answers.{tested, ifDone};
 ghost use Rattle.layouts.specs.Storing.{partAt};
-ghost use Rattle.layouts.specs.Layout.{rowStart};
+ghost use Rattle.layouts.specs.Layout.{levelsOf};
+ghost use Rattle.layouts.specs.Descent.{reached};
 ghost use Rattle.layouts.specs.Refusals.{layoutNo, noRow, rowNo};
-ghost use Rattle.layouts.specs.Answers.{placed, placeAnswer, rowPart, rowFrom};
+ghost use Rattle.layouts.specs.Answers.{placed, runOf, noRun, placeAnswer, rowPart, rowFrom};
+use crate::descent::Descent;
 use crate::layout::Layout;
-use crate::levels::frame_tested;
-use crate::levels::height;
 use crate::levels::offset;
 use crate::levels::stored;
-use crate::levels::width;
+use crate::levels::tested;
+use settings::refusal::BadLent;
 use settings::refusal::Refusal;
 use settings::refusal::Tested;
 
@@ -28,48 +30,75 @@ pub enum Placed {
     Refused(Refusal),
 }
 
-// A level that isn't there is told first: its height would take as many steps as its number.
-fn no_row(layout: Layout, level: u32, plane: usize, y: usize) -> bool
-    ensures { λ r. ⌜ r ≡ noRow layout level plane y ⌝ }
+// Row y of a plane of a level that a walk has reached. Refusal 19.
+fn placed_at(at: Descent, layout: Layout, level: u32, plane: usize, y: usize) -> Placed
+    requires { ⌜ (layoutNo layout ≡ 0) × (level < levelsOf layout) × (at ≡ reached layout level) ⌝ }
+    ensures { λ r. ⌜ placed r ≡ ifDone (refuse (noRow layout level plane y) 19) (runOf layout level plane y) noRun ⌝ }
+{
+    let r = at.region(layout, level);
+    if (stored(layout, level) <= plane) | (r.height <= y) {
+        return Placed::Refused(Refusal::NoRow);
+    }
+    Placed::At(Run {
+        offset: r.offset + (plane * r.height + y) * layout.pitch,
+        length: r.width,
+    })
+}
+
+// For a layout that isn't refused: the walk to the level goes on to where the last one ends. Refusals 11 and 19.
+pub fn row_within(layout: Layout, len: usize, level: u32, plane: usize, y: usize) -> Placed
+    requires { ⌜ layoutNo layout ≡ 0 ⌝ }
+    ensures { λ r. ⌜ placed r ≡ placeAnswer layout len level plane y ⌝ }
 {
     let opts = layout.opts;
     let n = opts.naturals();
-    if n.levels <= level {
-        return true;
+    let levels = n.levels;
+    if levels <= level {
+        if len < offset(layout, levels) {
+            return Placed::Refused(Refusal::Lent(BadLent::Frame));
+        }
+        return Placed::Refused(Refusal::NoRow);
     }
-    (stored(layout, level) <= plane) | (height(layout, level) <= y)
+    let at = Descent::top(layout).down(layout, 0, level);
+    let last = at.down(layout, level, levels);
+    if len < last.offset {
+        return Placed::Refused(Refusal::Lent(BadLent::Frame));
+    }
+    placed_at(at, layout, level, plane, y)
 }
 
-// Refusals 6, 7, 8, 11 and 19 of row y of a plane of a level, in a frame of len bytes.
-pub fn row_tested(layout: Layout, len: usize, level: u32, plane: usize, y: usize) -> Tested
-    ensures { λ r. ⌜ tested r ≡ rowNo layout len level plane y ⌝ }
-{
-    let frame = frame_tested(layout, len);
-    let Tested::Fine = frame else {
-        return frame;
-    };
-    let none = no_row(layout, level, plane, y);
-    Tested::Fine.then_refuse(none, Refusal::NoRow)
-}
-
-fn row_start(layout: Layout, level: u32, plane: usize, y: usize) -> usize
-    requires { ⌜ (layoutNo layout ≡ 0) × (noRow layout level plane y ≡ false) ⌝ }
-    ensures { λ r. ⌜ r ≡ rowStart layout level plane y ⌝ }
-{
-    let h = height(layout, level);
-    offset(layout, level) + (plane * h + y) * layout.pitch
-}
-
-// Where row y of a plane of a level lies, in a frame of len bytes.
+// Where row y of a plane of a level lies, in a frame of len bytes. Refusals 6, 7, 8, 11 and 19.
 pub fn row_place(layout: Layout, len: usize, level: u32, plane: usize, y: usize) -> Placed
     ensures { λ r. ⌜ placed r ≡ placeAnswer layout len level plane y ⌝ }
 {
-    match row_tested(layout, len, level, plane, y) {
-        Tested::Fine => Placed::At(Run {
-            offset: row_start(layout, level, plane, y),
-            length: width(layout, level),
-        }),
+    match tested(layout) {
+        Tested::Fine => row_within(layout, len, level, plane, y),
         Tested::Refused(f) => Placed::Refused(f),
+    }
+}
+
+// The number of that row.
+pub fn row_tested(layout: Layout, len: usize, level: u32, plane: usize, y: usize) -> Tested
+    ensures { λ r. ⌜ tested r ≡ rowNo layout len level plane y ⌝ }
+{
+    match row_place(layout, len, level, plane, y) {
+        Placed::At(_) => Tested::Fine,
+        Placed::Refused(f) => Tested::Refused(f),
+    }
+}
+
+// The frame's own bytes where an answer says that they lie, none where it is refused.
+pub fn hand_out(frame: &[u8], at: Placed) -> &[u8]
+    requires { ⌜ placed at .value .offset + placed at .value .length ≤ length (now frame) ⌝ }
+    ensures { λ r. ⌜ (now r ≡ take (placed at .value .length) (drop (placed at .value .offset) (now (frame .entry)))) × (ptr r ≡ partAt (frame .entry) (placed at .value .offset)) ⌝ }
+{
+    match at {
+        Placed::At(run) => {
+            let start = run.offset;
+            let end = start + run.length;
+            &frame[start..end]
+        }
+        Placed::Refused(_) => &frame[..0],
     }
 }
 
@@ -77,11 +106,6 @@ pub fn row_place(layout: Layout, len: usize, level: u32, plane: usize, y: usize)
 pub fn row(frame: &[u8], layout: Layout, level: u32, plane: usize, y: usize) -> &[u8]
     ensures { λ r. ⌜ (now r ≡ rowPart layout (now (frame .entry)) level plane y) × (ptr r ≡ partAt (frame .entry) (rowFrom layout (length (now (frame .entry))) level plane y)) ⌝ }
 {
-    let t = row_tested(layout, frame.len(), level, plane, y);
-    if !t.is_fine() {
-        return &frame[..0];
-    }
-    let start = row_start(layout, level, plane, y);
-    let end = start + width(layout, level);
-    &frame[start..end]
+    let at = row_place(layout, frame.len(), level, plane, y);
+    hand_out(frame, at)
 }

@@ -1,20 +1,22 @@
--- `regions` meets its contract. The loop has written the columns of the levels passed. Assumes nothing.
-use borrow.Author.Needs.{needs}
-use mathlib.Core.Path.{_≡_, refl, ap, _∙_}
+-- `regions` meets its contract. The loop has filled the columns as far as it has come, and carries what is reached there. Assumes nothing.
+use mathlib.Core.Path.{_≡_, sym, ap, _∙_}
 use mathlib.Core.List.{List}
-use Prim.Native.Nat.{ℕ, _-_}
+use Prim.Native.Nat.{ℕ, _-_, _≤_, _<_}
 use native.Mathlib.Omega.{arith}
+use borrow.Author.Needs.{needs}
 use Rattle.settings.specs.declared.super_opts.Naturals.{Naturals}
 use Rattle.settings.specs.Limits.{mostLevels}
 use Rattle.settings.specs.Answers.{answer}
 use Rattle.settings.proofs.Known.{given}
 use Rattle.filters.specs.Row.{tab}
-use Rattle.filters.proofs.Filling.{Filled, filled-none, filled-more, filled-whole}
 use Rattle.layouts.specs.declared.layout.Region.{Region}
 use Rattle.layouts.specs.Layout.{levelsOf, regionOr, noRegion}
+use Rattle.layouts.specs.Descent.{reached}
 use Rattle.layouts.specs.Refusals.{layoutNo}
 use Rattle.layouts.specs.Answers.{Columns, columns}
 use Rattle.layouts.proofs.Loops.{next-less}
+use Rattle.layouts.proofs.Columns.{Column, column-none, column-more, column-whole}
+use Rattle.layouts.proofs.Layouts.{allowed, levels-le, region-there, region-none}
 use Rattle.layouts.proofs.layout.Layout.regions.Statement.{statement}
 use Rattle.layouts.proofs.layout.Layout.regions.Tie as tie
 
@@ -22,65 +24,88 @@ in-columns : {n m : ℕ} {o w h : List ℕ} (at : ℕ → Region) → n ≡ m �
 in-columns at a b c d = rw (a, b, c, d)
 
 abbrev Inv-loop : tie.InvT-loop
-Inv-loop self offsets₀ widths₀ heights₀ i₀ offsets widths heights i = Filled (λ l. regionOr self l .offset) offsets mostLevels i × Filled (λ l. regionOr self l .width) widths mostLevels i × Filled (λ l. regionOr self l .height) heights mostLevels i
+Inv-loop self offsets₀ widths₀ heights₀ levels at₀ level₀ offsets widths heights at level =
+    Column (λ l. regionOr self l .offset) offsets mostLevels level
+    × Column (λ l. regionOr self l .width) widths mostLevels level
+    × Column (λ l. regionOr self l .height) heights mostLevels level
+    × (at ≡ reached self level)
+    × (level ≤ levels)
 
 abbrev μ-loop : tie.MeasureT-loop
-μ-loop self offsets₀ widths₀ heights₀ i₀ offsets widths heights i = mostLevels - i
+μ-loop self offsets₀ widths₀ heights₀ levels at₀ level₀ offsets widths heights at level = levels - level
 
-loop-holds : tie.Need-loop-holds Inv-loop μ-loop
-loop-holds c = (filled-none refl, filled-none refl, filled-none refl)
-
-cast-region : tie.Need-cast-region Inv-loop μ-loop
-cast-region c = omega arith
-
-region-requires : tie.Need-region-requires Inv-loop μ-loop
-region-requires c κs = c .before .before .pre
-
-mul-offsets : tie.Need-mul-offsets Inv-loop μ-loop
-mul-offsets c = omega arith
-
-array-write-offsets : tie.Need-array-write-offsets Inv-loop μ-loop
-array-write-offsets c = omega arith
-
-mul-widths : tie.Need-mul-widths Inv-loop μ-loop
-mul-widths c = omega arith
-
-array-write-widths : tie.Need-array-write-widths Inv-loop μ-loop
-array-write-widths c = omega arith
-
-mul-heights : tie.Need-mul-heights Inv-loop μ-loop
-mul-heights c = omega arith
-
-array-write-heights : tie.Need-array-write-heights Inv-loop μ-loop
-array-write-heights c = omega arith
-
-add-i : tie.Need-add-i Inv-loop μ-loop
-add-i c = omega arith
-
-loop-less : tie.Need-loop-less Inv-loop μ-loop
-loop-less c = next-less (c .before .loop-test .taken)
-
-loop-again : tie.Need-loop-again Inv-loop μ-loop
-loop-again c =
-    let l = c .before .before .loop in
-    let lt = c .before .loop-test .taken in
-    let r = c .region .ensures in
-    (filled-more (l .inv .0) lt (ap (λ (x : Region). x .offset) r), filled-more (l .inv .1) lt (ap (λ (x : Region). x .width) r), filled-more (l .inv .2) lt (ap (λ (x : Region). x .height) r))
+-- the level is there
+inside : (c : tie.In-loop Inv-loop μ-loop) → (c .before .loop .level < levelsOf (c .before .before .before .before .before .args .self)) × (c .before .loop .level < mostLevels)
+inside c =
+    let top = c .before .before in
+    let s = top .before .before .before in
+    let n = ap (λ (x : Naturals). x .levels) (top .before .naturals .ensures) in
+    let lt : c .before .loop .level < levelsOf (s .args .self) = omega (arith, n, c .loop-test .taken) in
+    (lt, omega (arith, levels-le (s .args .self) (allowed (s .args .self) (s .pre))))
 
 naturals-requires : tie.Need-naturals-requires Inv-loop μ-loop
 naturals-requires c κs = tt
 
-cast-t19 : tie.Need-cast-t19 Inv-loop μ-loop
-cast-t19 c = search needs
+top-requires : tie.Need-top-requires Inv-loop μ-loop
+top-requires c κs = tt
+
+loop-holds : tie.Need-loop-holds Inv-loop μ-loop
+loop-holds c = (column-none, column-none, column-none, c .top .ensures, omega arith)
+
+region-requires : tie.Need-region-requires Inv-loop μ-loop
+region-requires c κs = (c .before .before .before .before .before .pre, c .before .loop .inv .3)
+
+cast-i : tie.Need-cast-i Inv-loop μ-loop
+cast-i c = omega (arith, inside (c .before))
+
+mul-offsets : tie.Need-mul-offsets Inv-loop μ-loop
+mul-offsets c = omega (arith, inside (c .before))
+
+array-write-offsets : tie.Need-array-write-offsets Inv-loop μ-loop
+array-write-offsets c = omega (arith, inside (c .before))
+
+mul-widths : tie.Need-mul-widths Inv-loop μ-loop
+mul-widths c = omega (arith, inside (c .before))
+
+array-write-widths : tie.Need-array-write-widths Inv-loop μ-loop
+array-write-widths c = omega (arith, inside (c .before))
+
+mul-heights : tie.Need-mul-heights Inv-loop μ-loop
+mul-heights c = omega (arith, inside (c .before))
+
+array-write-heights : tie.Need-array-write-heights Inv-loop μ-loop
+array-write-heights c = omega (arith, inside (c .before))
+
+next-requires : tie.Need-next-requires Inv-loop μ-loop
+next-requires c κs = (c .before .before .before .before .before .before .pre, inside (c .before) .1, c .before .before .loop .inv .3)
+
+add-level : tie.Need-add-level Inv-loop μ-loop
+add-level c = omega (arith, inside (c .before .before))
+
+loop-less : tie.Need-loop-less Inv-loop μ-loop
+loop-less c = next-less (c .before .before .loop-test .taken)
+
+loop-again : tie.Need-loop-again Inv-loop μ-loop
+loop-again c =
+    let turn = c .before .before in
+    let l = turn .before .loop in
+    let lt = inside turn in
+    let r = c .before .region .ensures ∙ sym (region-there (turn .before .before .before .before .before .args .self) (l .level) (lt .0)) in
+    (column-more (l .inv .0) (lt .1) (ap (λ (x : Region). x .offset) r), column-more (l .inv .1) (lt .1) (ap (λ (x : Region). x .width) r), column-more (l .inv .2) (lt .1) (ap (λ (x : Region). x .height) r), c .next .ensures, omega arith)
+
+cast-t21 : tie.Need-cast-t21 Inv-loop μ-loop
+cast-t21 c = search needs
 
 returns : tie.Need-returns Inv-loop μ-loop
 returns c =
-    let l = c .before .before .before .before in
-    let q = l .before .args .self in
-    let end = c .before .before .before .loop-test .left in
+    let l = c .before .loop in
+    let top = c .before .before in
+    let q = top .before .before .before .args .self in
+    let n = ap (λ (x : Naturals). x .levels) (top .before .naturals .ensures) in
+    let none : (j : ℕ) → l .level ≤ j → regionOr q j ≡ noRegion = λ j le. region-none q j (omega (arith, n, c .loop-test .left)) in
     ap (answer 0)
-    (in-columns (regionOr q) (ap (λ (x : Naturals). x .levels) (c .before .naturals .ensures)) (filled-whole (l .loop .inv .0) end) (filled-whole (l .loop .inv .1) end) (filled-whole (l .loop .inv .2) end))
-    ∙ given (layoutNo q) (columns (levelsOf q) (regionOr q)) (columns 0 (λ l. noRegion)) (l .before .pre)
+    (in-columns (regionOr q) n (column-whole (l .inv .0) (λ j le. ap (λ (x : Region). x .offset) (none j le))) (column-whole (l .inv .1) (λ j le. ap (λ (x : Region). x .width) (none j le))) (column-whole (l .inv .2) (λ j le. ap (λ (x : Region). x .height) (none j le))))
+    ∙ given (layoutNo q) (columns (levelsOf q) (regionOr q)) (columns 0 (λ l. noRegion)) (top .before .before .before .pre)
 
 pub regions-spec : {M : Type 1} → statement M
 regions-spec =
@@ -88,18 +113,20 @@ regions-spec =
     (tie.spec
     Inv-loop
     μ-loop
+    naturals-requires
+    top-requires
     loop-holds
-    cast-region
     region-requires
+    cast-i
     mul-offsets
     array-write-offsets
     mul-widths
     array-write-widths
     mul-heights
     array-write-heights
-    add-i
+    next-requires
+    add-level
     loop-less
     loop-again
-    naturals-requires
-    cast-t19
+    cast-t21
     returns)
