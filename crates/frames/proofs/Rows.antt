@@ -2,11 +2,11 @@
 use mathlib.Core.Path.{_≡_, refl, sym, ap, _∙_}
 use mathlib.Core.Bool.{false}
 use mathlib.Core.List.{List}
-use Prim.Native.Nat.{ℕ, _+_, _*_, _≤_}
+use Prim.Native.Nat.{ℕ, _+_, _*_, _≤_, _<_}
 use native.Mathlib.Omega.{arith}
 use lib.Dec.{leb, ltb}
 use lib.ListN.{length, take, drop}
-use borrow.Author.Tests.{ltb-false, leb-false, le-ltb}
+use borrow.Author.Tests.{ltb-false, leb-false, lt-ltb, le-ltb}
 use Rattle.settings.specs.declared.super_opts.SuperOpts.{SuperOpts}
 use Rattle.settings.specs.declared.refusal.Refusal.{Refusal}
 use Rattle.settings.specs.Numbers.{refuse, _then_}
@@ -19,7 +19,7 @@ use Rattle.layouts.specs.Layout.{widthAt, rowStart}
 use Rattle.layouts.specs.Refusals.{frameNo, noRow, rowNo}
 use Rattle.layouts.specs.Answers.{runOf, noRun, placeAnswer}
 use Rattle.layouts.specs.Room.{mostOffset}
-use Rattle.layouts.proofs.Layouts.{then-kept, row-ends}
+use Rattle.layouts.proofs.Layouts.{then-kept, row-ends, run-ends}
 use Rattle.frames.specs.Parts.{planeOf, lengthOf, startOf, joinedEnd, planesNo, partNo, rowInNo, runInOf, placeInAnswer, rowInPart, rowInFrom}
 use Rattle.frames.proofs.Laid.{laid-out, length-le, part-ends, start-le}
 
@@ -39,6 +39,13 @@ there r len k e =
       end = ltb-false len (joinedEnd r) (refuse-not (ltb len (joinedEnd r)) 10 (then-rest (planesNo r) short first));
       part = omega (arith, leb-false 3 k (refuse-not (leb 3 k) 18 (then-rest (planesNo r then short) none e)));
     }
+
+-- the number of a part, where the planes aren't refused
+pub part-short : (r : SuperOpts) (len k : ℕ) → planesNo r ≡ 0 → len < joinedEnd r → 11 ≡ partNo r len k
+part-short r len k none lt = rw (none, lt-ltb len (joinedEnd r) lt) refl
+
+pub part-long : (r : SuperOpts) (len k : ℕ) → planesNo r ≡ 0 → joinedEnd r ≤ len → refuse (leb 3 k) 19 ≡ partNo r len k
+part-long r len k none le = rw (none, le-ltb len (joinedEnd r) le) refl
 
 module _ (r : SuperOpts) (k l j y : ℕ) where
   -- ---- in a frame that is the part alone
@@ -71,14 +78,22 @@ module _ (r : SuperOpts) (k l j y : ℕ) where
   unfolding rowInNo
   refused-in len f e = refused (rowInNo r len k l j y) f (runInOf r k l j y) noRun (e ∙ then-kept f (partNo r len k) (refuse (noRow (planeOf r k) l j y) 19) e)
 
-  pub ends-in : (len : ℕ) {at : Run} → answer 0 at ≡ placeInAnswer r len k l j y → at .offset + at .length ≤ len
+  -- a refusal of the planes is the row's
+  pub refused-planes : (len : ℕ) (f : Refusal) → number f ≡ planesNo r → answer (number f) noRun ≡ placeInAnswer r len k l j y
+  refused-planes len f e =
+      let short = refuse (ltb len (joinedEnd r)) 11 in
+      let first = then-kept f (planesNo r) short e in
+      refused-in len f (e ∙ first ∙ then-kept f (planesNo r then short) (refuse (leb 3 k) 19) (e ∙ first))
+
+  -- where the answer says that the row lies, it ends in the frame
+  pub ends-in : (len : ℕ) → placeInAnswer r len k l j y .value .offset + placeInAnswer r len k l j y .value .length ≤ len
   unfolding rowInNo
-  ends-in len {at} e =
+  ends-in len =
+      run-ends (rowInNo r len k l j y) len (runInOf r k l j y)
+      (λ passed.
       let none = refuse (noRow (planeOf r k) l j y) 19 in
-      let passed = sym (number-of e) in
       let part = there r len k (then-first (partNo r len k) none passed) in
-      let run : at ≡ runInOf r k l j y = value-given (runInOf r k l j y) noRun e in
-      omega (arith, ap (λ (x : Run). x .offset) run, ap (λ (x : Run). x .length) run, ends-alone (part .planes) (refuse-not (noRow (planeOf r k) l j y) 18 (then-rest (partNo r len k) none passed)), part-ends r k (part .part), part .end)
+      omega (arith, ends-alone (part .planes) (refuse-not (noRow (planeOf r k) l j y) 18 (then-rest (partNo r len k) none passed)), part-ends r k (part .part), part .end))
 
   -- by what a call told, the row or none
   pub row-told : (f : List ℕ) {n : ℕ} {at : Run} → answer n at ≡ placeInAnswer r (length f) k l j y → take (at .length) (drop (at .offset) f) ≡ rowInPart r f k l j y

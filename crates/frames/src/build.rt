@@ -11,14 +11,12 @@ ghost use Rattle.layouts.specs.Refusals.{badPitch, sourceNeed};
 ghost use Rattle.layouts.specs.Room.{Ready};
 ghost use Rattle.frames.specs.Parts.{planeOf, lengthOf, joinedEnd, planesNo};
 ghost use Rattle.frames.specs.Build.{three, lentFrameNo, buildFrameNo, partBuilt, frameLeft, FrameLeaves};
-use crate::parts::part_length;
-use crate::parts::part_start;
+use crate::parts::part_of;
+use crate::parts::parts_of;
 use crate::parts::plane_of;
 use crate::parts::planes_tested;
 use filters::rows::zero_row;
-use layouts::lent::scratch_need;
 use layouts::lent::source_need;
-use layouts::lent::spill_need;
 use layouts::levels::bad_pitch;
 use layouts::levels::width;
 use planes::build::build_spilled;
@@ -59,15 +57,13 @@ fn lent_tested(
     let source = short_source(opts, 0, y, y_pitch)
         | short_source(opts, 1, u, u_pitch)
         | short_source(opts, 2, v, v_pitch);
-    let end = part_start(opts, 3);
-    let luma = plane_of(opts, 0);
-    let beyond = spill_need(luma);
-    let room = scratch_need(luma);
+    let parts = parts_of(opts);
+    let needs = parts.needs;
     Tested::Fine
         .then_refuse(source, Refusal::Lent(BadLent::Source))
-        .then_refuse(frame < end, Refusal::Lent(BadLent::Frame))
-        .then_refuse(spill < beyond, Refusal::Lent(BadLent::Spill))
-        .then_refuse(scratch < room, Refusal::Lent(BadLent::Scratch))
+        .then_refuse(frame < parts.length, Refusal::Lent(BadLent::Frame))
+        .then_refuse(spill < needs.spill, Refusal::Lent(BadLent::Spill))
+        .then_refuse(scratch < needs.scratch, Refusal::Lent(BadLent::Scratch))
 }
 
 fn build_tested(
@@ -121,12 +117,13 @@ fn build_part(
     requires { ⌜ (planesNo opts ≡ 0) × (part ≤ 2) × (joinedEnd opts ≤ length (now frame)) × Ready (planeOf opts part) (length (now src)) «src_pitch» (lengthOf opts part) (length (now spill)) (length (now scratch)) ⌝ }
     ensures { λ r. ⌜ now (frame .exit) ≡ partBuilt opts part (now (src .entry)) «src_pitch» (now (frame .entry)) ⌝ }
 {
-    let start = part_start(opts, part);
-    let end = start + part_length(opts, part);
-    let own = &mut frame[start..end];
+    let own = part_of(opts, parts_of(opts), part);
+    let start = own.start;
+    let end = start + own.length;
+    let bytes = &mut frame[start..end];
     build_spilled(
         true,
-        own,
+        bytes,
         spill,
         scratch,
         plane_of(opts, part),

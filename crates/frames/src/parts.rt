@@ -1,15 +1,13 @@
 // The planes of a frame, Y, U and V, by the numbers 0, 1 and 2: where the part of each lies.
-// First a plane's layout, and the length and start of its part; then the refusals; then where the parts lie; last a row of one.
+// First a plane's layout, and the length of its part; then the refusals; then where the parts lie; last a row of one.
 ghost use mathlib.Core.Path.{_≡_};
 ghost use Prim.Native.Nat.{_≤_};
 ghost use lib.ListN.{length};
 ghost use denote.Ref.{ptr};
-ghost use Rattle.settings.specs.Numbers.{refuse};
-ghost use Rattle.settings.specs.Answers.{tested, ifDone};
+ghost use Rattle.settings.specs.Answers.{tested};
 ghost use Rattle.layouts.specs.Storing.{partAt};
-ghost use Rattle.layouts.specs.Refusals.{noRow};
-ghost use Rattle.layouts.specs.Answers.{placed, noRun};
-ghost use Rattle.frames.specs.Parts.{planeOf, lengthOf, startOf, planesNo, partOf, partsOf, parted, partsAnswer, partNo, runInOf, placeInAnswer, rowInPart, rowInFrom};
+ghost use Rattle.layouts.specs.Answers.{placed};
+ghost use Rattle.frames.specs.Parts.{planeOf, lengthOf, planesNo, partOf, partsOf, parted, partsAnswer, placeInAnswer, rowInPart, rowInFrom};
 use layouts::layout::Layout;
 use layouts::layout::Needs;
 use layouts::lent::scratch_need;
@@ -17,7 +15,8 @@ use layouts::lent::spill_need;
 use layouts::levels::offset;
 use layouts::rows::Placed;
 use layouts::rows::Run;
-use layouts::rows::row_place;
+use layouts::rows::hand_out;
+use layouts::rows::row_within;
 use settings::refusal::BadLent;
 use settings::refusal::BadPlanes;
 use settings::refusal::Refusal;
@@ -67,24 +66,12 @@ pub(crate) fn plane_of(opts: SuperOpts, part: u32) -> Layout
     }
 }
 
-pub(crate) fn part_length(opts: SuperOpts, part: u32) -> usize
+fn part_length(opts: SuperOpts, part: u32) -> usize
     requires { ⌜ planesNo opts ≡ 0 ⌝ }
     ensures { λ r. ⌜ r ≡ lengthOf opts part ⌝ }
 {
     let n = opts.naturals();
     offset(plane_of(opts, part), n.levels)
-}
-
-// Past the parts before it; of 3, where the last one ends.
-pub(crate) fn part_start(opts: SuperOpts, part: u32) -> usize
-    requires { ⌜ (planesNo opts ≡ 0) × (part ≤ 3) ⌝ }
-    ensures { λ r. ⌜ r ≡ startOf opts part ⌝ }
-{
-    let mut start = 0;
-    for before in 0..part {
-        start += part_length(opts, before);
-    }
-    start
 }
 
 // Refusals 6, 23 and 24.
@@ -102,33 +89,50 @@ pub(crate) fn planes_tested(opts: SuperOpts) -> Tested
         .then_refuse(!opts.full, Refusal::Planes(BadPlanes::Full))
 }
 
-fn part_of(opts: SuperOpts, part: u32) -> Part
-    requires { ⌜ (planesNo opts ≡ 0) × (part ≤ 2) ⌝ }
-    ensures { λ r. ⌜ r ≡ partOf opts part ⌝ }
-{
-    let layout = plane_of(opts, part);
-    Part {
-        start: part_start(opts, part),
-        pitch: layout.pitch,
-        length: part_length(opts, part),
-    }
-}
-
-fn parts_of(opts: SuperOpts) -> Parts
+// Two walks down the levels tell it all: V is as long as U.
+pub(crate) fn parts_of(opts: SuperOpts) -> Parts
     requires { ⌜ planesNo opts ≡ 0 ⌝ }
     ensures { λ r. ⌜ r ≡ partsOf opts ⌝ }
 {
     let luma = plane_of(opts, 0);
+    let chroma = plane_of(opts, 1);
+    let long = part_length(opts, 0);
+    let short = part_length(opts, 1);
     Parts {
-        y: part_of(opts, 0),
-        u: part_of(opts, 1),
-        v: part_of(opts, 2),
-        length: part_start(opts, 3),
+        y: Part {
+            start: 0,
+            pitch: luma.pitch,
+            length: long,
+        },
+        u: Part {
+            start: long,
+            pitch: chroma.pitch,
+            length: short,
+        },
+        v: Part {
+            start: long + short,
+            pitch: chroma.pitch,
+            length: short,
+        },
+        length: long + short + short,
         needs: Needs {
             spill: spill_need(luma),
             scratch: scratch_need(luma),
         },
     }
+}
+
+pub(crate) fn part_of(opts: SuperOpts, parts: Parts, part: u32) -> Part
+    requires { ⌜ (parts ≡ partsOf opts) × (part ≤ 2) ⌝ }
+    ensures { λ r. ⌜ r ≡ partOf opts part ⌝ }
+{
+    if part == 0 {
+        return parts.y;
+    }
+    if part == 1 {
+        return parts.u;
+    }
+    parts.v
 }
 
 // Where the planes lie, and what a build of all three needs. Refusals 6, 23, 24.
@@ -141,29 +145,22 @@ pub fn frame_parts(opts: SuperOpts) -> Parted
     }
 }
 
-// Refusals 6, 23, 24, 11, and 19 where there is no such part.
-fn part_tested(opts: SuperOpts, len: usize, part: u32) -> Tested
-    ensures { λ r. ⌜ tested r ≡ partNo opts len part ⌝ }
+// Of a record that has a frame: the row in its part, and the part in the frame. Refusals 11 and 19.
+fn place_in(opts: SuperOpts, len: usize, part: u32, level: u32, plane: usize, y: usize) -> Placed
+    requires { ⌜ planesNo opts ≡ 0 ⌝ }
+    ensures { λ r. ⌜ placed r ≡ placeInAnswer opts len part level plane y ⌝ }
 {
-    let t = planes_tested(opts);
-    let Tested::Fine = t else {
-        return t;
-    };
-    let end = part_start(opts, 3);
-    Tested::Fine
-        .then_refuse(len < end, Refusal::Lent(BadLent::Frame))
-        .then_refuse(part > 2, Refusal::NoRow)
-}
-
-// In the frame, where a row of the part lies.
-fn place_in(opts: SuperOpts, part: u32, level: u32, plane: usize, y: usize) -> Placed
-    requires { ⌜ (planesNo opts ≡ 0) × (part ≤ 2) ⌝ }
-    ensures { λ r. ⌜ placed r ≡ ifDone (refuse (noRow (planeOf opts part) level plane y) 19) (runInOf opts part level plane y) noRun ⌝ }
-{
-    let length = part_length(opts, part);
-    match row_place(plane_of(opts, part), length, level, plane, y) {
+    let parts = parts_of(opts);
+    if len < parts.length {
+        return Placed::Refused(Refusal::Lent(BadLent::Frame));
+    }
+    if part > 2 {
+        return Placed::Refused(Refusal::NoRow);
+    }
+    let own = part_of(opts, parts, part);
+    match row_within(plane_of(opts, part), own.length, level, plane, y) {
         Placed::At(run) => Placed::At(Run {
-            offset: part_start(opts, part) + run.offset,
+            offset: own.start + run.offset,
             length: run.length,
         }),
         Placed::Refused(f) => Placed::Refused(f),
@@ -181,8 +178,8 @@ pub fn frame_row_place(
 ) -> Placed
     ensures { λ r. ⌜ placed r ≡ placeInAnswer opts len part level plane y ⌝ }
 {
-    match part_tested(opts, len, part) {
-        Tested::Fine => place_in(opts, part, level, plane, y),
+    match planes_tested(opts) {
+        Tested::Fine => place_in(opts, len, part, level, plane, y),
         Tested::Refused(f) => Placed::Refused(f),
     }
 }
@@ -198,12 +195,6 @@ pub fn frame_row(
 ) -> &[u8]
     ensures { λ r. ⌜ (now r ≡ rowInPart opts (now (frame .entry)) part level plane y) × (ptr r ≡ partAt (frame .entry) (rowInFrom opts (length (now (frame .entry))) part level plane y)) ⌝ }
 {
-    match frame_row_place(opts, frame.len(), part, level, plane, y) {
-        Placed::At(run) => {
-            let start = run.offset;
-            let end = start + run.length;
-            &frame[start..end]
-        }
-        Placed::Refused(_) => &frame[..0],
-    }
+    let at = frame_row_place(opts, frame.len(), part, level, plane, y);
+    hand_out(frame, at)
 }

@@ -1,7 +1,5 @@
 -- `lent_tested` meets its contract. Assumes nothing.
-use native.Mathlib.Omega.{arith}
 use Rattle.frames.specs.Build.{lentFrameNo}
-use Rattle.frames.proofs.Laid.{laid-plane}
 use Rattle.frames.proofs.build.lent_tested.Statement.{statement}
 use Rattle.frames.proofs.build.lent_tested.Tie as tie
 
@@ -14,17 +12,8 @@ short-source-requires-2 c κs = let p = c .before .pre in (p .0, p .2)
 short-source-requires-3 : tie.Need-short-source-requires-3
 short-source-requires-3 c κs = let p = c .before .before .pre in (p .0, p .3)
 
-part-start-requires : tie.Need-part-start-requires
-part-start-requires c κs = (c .before .before .before .pre .0, omega arith)
-
-plane-of-requires : tie.Need-plane-of-requires
-plane-of-requires c κs = tt
-
-spill-need-requires : tie.Need-spill-need-requires
-spill-need-requires c κs = let s = c .before .before .before .before .before in laid-plane (s .args .opts) (s .pre .0) 0 (c .plane-of .ensures)
-
-scratch-need-requires : tie.Need-scratch-need-requires
-scratch-need-requires c κs = let s = c .before .before .before .before .before .before in laid-plane (s .args .opts) (s .pre .0) 0 (c .before .plane-of .ensures)
+parts-of-requires : tie.Need-parts-of-requires
+parts-of-requires c κs = c .before .before .before .pre .0
 
 then-refuse-requires : tie.Need-then-refuse-requires
 then-refuse-requires c κs = tt
@@ -41,15 +30,24 @@ then-refuse-requires-4 c κs = tt
 returns : tie.Need-returns
 unfolding lentFrameNo
 returns c =
-    let t3 = c .before in
-    let t2 = t3 .before in
-    let t1 = t2 .before in
-    let room = t1 .before in
-    let beyond = room .before in
-    let end = beyond .before .before in
-    let v = end .before in
+    let t3 = c .before .before in
+    let t2 = t3 .before .before in
+    let t1 = t2 .before .before in
+    let parts = t1 .before .before in
+    let v = parts .before in
     rw (c .then-refuse4 .ensures, t3 .then-refuse3 .ensures, t2 .then-refuse2 .ensures, t1 .then-refuse .ensures)
-    (rw (room .scratch-need .ensures, beyond .spill-need .ensures, beyond .before .plane-of .ensures, end .part-start .ensures, v .short-source3 .ensures, v .before .short-source2 .ensures, v .before .before .short-source .ensures))
+    (rw (parts .parts-of .ensures, v .short-source3 .ensures, v .before .short-source2 .ensures, v .before .before .short-source .ensures))
 
 pub lent-tested-spec : {M : Type 1} → statement M
-lent-tested-spec = tie.close (tie.spec short-source-requires short-source-requires-2 short-source-requires-3 part-start-requires plane-of-requires spill-need-requires scratch-need-requires then-refuse-requires then-refuse-requires-2 then-refuse-requires-3 then-refuse-requires-4 returns)
+lent-tested-spec =
+    tie.close
+    (tie.spec
+    short-source-requires
+    short-source-requires-2
+    short-source-requires-3
+    parts-of-requires
+    then-refuse-requires
+    then-refuse-requires-2
+    then-refuse-requires-3
+    then-refuse-requires-4
+    returns)

@@ -1,23 +1,21 @@
 -- `part_of` meets its contract. Assumes nothing.
-use mathlib.Core.Path.{ap}
+use mathlib.Core.Path.{sym, ap, _∙_}
 use native.Mathlib.Omega.{arith}
-use Rattle.layouts.specs.declared.layout.Layout.{Layout}
+use Rattle.frames.specs.declared.parts.Parts.{Parts}
+use Rattle.frames.specs.Parts.{partOf}
 use Rattle.frames.proofs.parts.part_of.Statement.{statement}
 use Rattle.frames.proofs.parts.part_of.Tie as tie
 
-plane-of-requires : tie.Need-plane-of-requires
-plane-of-requires c κs = tt
-
-part-start-requires : tie.Need-part-start-requires
-part-start-requires c κs = let p = c .before .pre in (p .0, omega (arith, p .1))
-
-part-length-requires : tie.Need-part-length-requires
-part-length-requires c κs = c .before .before .pre .0
-
 returns : tie.Need-returns
-returns c =
-    let q = ap (λ (x : Layout). x .pitch) (c .before .before .plane-of .ensures) in
-    rw (c .part-length .ensures, c .before .part-start .ensures, q)
+returns c = let s = c .before .before in ap (λ (p : Parts). p .y) (s .pre .0) ∙ sym (ap (partOf (s .args .opts)) (omega (arith, c .before .if1 .taken)))
+
+returns-2 : tie.Need-returns-2
+returns-2 c = let s = c .before .before .before in ap (λ (p : Parts). p .u) (s .pre .0) ∙ sym (ap (partOf (s .args .opts)) (omega (arith, c .before .if2 .taken)))
+
+returns-3 : tie.Need-returns-3
+returns-3 c =
+    let s = c .before .before .before in
+    ap (λ (p : Parts). p .v) (s .pre .0) ∙ sym (ap (partOf (s .args .opts)) (omega (arith, s .pre .1, c .before .if2 .left, c .before .before .if1 .left)))
 
 pub part-of-spec : {M : Type 1} → statement M
-part-of-spec = tie.close (tie.spec plane-of-requires part-start-requires part-length-requires returns)
+part-of-spec = tie.close (tie.spec returns returns-2 returns-3)
