@@ -1,4 +1,4 @@
-//! The Rust of open-svpflow, unchanged, with the doors that tests/calls.c and bench/builds.c go through. scripts/door and bench/run lay its files beside this one.
+//! The Rust of open-svpflow, unchanged, with the doors that tests/calls.c, bench/builds.c and bench/layouts.c go through. scripts/door and bench/run lay its files beside this one.
 //! What the rules refuse isn't asked of it, but for settings: the Rust has no such limits.
 #![allow(dead_code)]
 
@@ -48,6 +48,11 @@ pub extern "C" fn rust_check(given: u32, set: &[i32; 7], width: i32, height: i32
 
 fn opts(r: &[i32; 10]) -> SuperOpts {
     SuperOpts { pel: r[0], gpu: r[1], scale_down: r[2], scale_up: r[3], full: r[4] != 0, rc: r[5] != 0, lean: r[6] != 0, levels: r[7], width: r[8], height: r[9] }
+}
+
+#[unsafe(no_mangle)]
+pub extern "C" fn rust_levels(width: i32, height: i32) -> i32 {
+    super_opts::auto_levels(width, height)
 }
 
 #[unsafe(no_mangle)]
