@@ -1,6 +1,6 @@
-/* One call about a record, a word or a layout, of the shipped library or of the Rust, once and REPEATS times more. Or, with `both`, every call that both have: they tell the same.
+/* One call about a record, a word or a layout, of the shipped library or of the Rust, once and REPEATS times more. Or, with `both`, every call that both have, whatever CALL is: they tell the same.
      layouts SIDE CALL LEVEL WIDTH HEIGHT REPEATS      SIDE: ours, rust or both; CALL: a name of `calls`; LEVEL: whose row is asked for
-   Of a picture by the default settings, pel 2, in rows without gaps. Status 3: the Rust has no such call, or the picture no such level. */
+   Of a picture by the default settings, pel 2, in rows without gaps. Status 3: the side has no such call, or the picture no such level. */
 #include "sillcandle.h"
 #include <stdio.h>
 #include <stdlib.h>
@@ -68,10 +68,12 @@ int main(int argc, char **argv) {
         printf("another answer: %s %s\n", argv[4], argv[5]);
         return 1;
     }
-    uint32_t (*call)(void) = NULL;
-    for (size_t k = 0; k < sizeof calls / sizeof *calls; k++)
-        if (!strcmp(argv[2], calls[k].name)) call = strcmp(argv[1], "ours") ? calls[k].rust : calls[k].ours;
-    if (!call || call()) return 3;
+    size_t k = 0, count = sizeof calls / sizeof *calls;
+    while (k < count && strcmp(argv[2], calls[k].name)) k++;
+    if (k == count) return 2;
+    uint32_t (*call)(void) = strcmp(argv[1], "ours") ? calls[k].rust : calls[k].ours;
+    uint32_t no = call ? call() : SILL_NO_ROW;
+    if (no) return no == SILL_NO_ROW ? 3 : 2;
     for (long repeats = atol(argv[6]); repeats > 0; repeats--) call();
     return 0;
 }

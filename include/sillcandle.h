@@ -74,7 +74,7 @@ enum {
     SILL_BAD_SIZE = 5,         /* width or height outside 1 to 16,384 */
     SILL_NO_RECORD = 6,        /* a record handed in is no accepted record */
     SILL_BAD_SHIFT = 7,        /* a shift above 1 */
-    SILL_BAD_PITCH = 8,        /* pitch below max(1, least) or above 32,768; least is level 0's width if full, else level 1's */
+    SILL_BAD_PITCH = 8,        /* pitch below max(1, least) or above 32,768; least is the plane's width at level 0 if full, else at level 1, also where there is no level 1 */
     SILL_BAD_SOURCE_PITCH = 9, /* source pitch below max(1, level 0's width) or above 32,768 */
     SILL_BAD_SOURCE = 10,      /* source shorter than (h - 1) * source pitch + w; 0 bytes suffice if w or h is 0 */
     SILL_BAD_FRAME = 11,       /* frame shorter than the written end */
@@ -189,7 +189,8 @@ uint32_t sill_longhand_write(const int32_t *record, size_t record_count, uint8_t
 uint32_t sill_longhand_read(const uint8_t *bytes, size_t bytes_count, int32_t *record, size_t record_count,
                             size_t *after, size_t after_count);
 
-/* The size of the super frame that a record asks for. Writes SILL_COUNT_SIZES numbers: width, height.
+/* The size of the super frame that a record asks for. Writes SILL_COUNT_SIZES numbers: width, height. It isn't how much to lend, which
+   sill_written_end tells: a lean record has 2 rows here.
    Numbers: 6 SILL_NO_RECORD, 15 SILL_NO_ROOM. */
 uint32_t sill_super_sizes(const int32_t *record, size_t record_count, int32_t *sizes, size_t sizes_count);
 
@@ -215,7 +216,9 @@ uint32_t sill_needs(const int32_t *record, size_t record_count, uint32_t x_shift
 uint32_t sill_clear_margins(uint8_t *frame, size_t frame_count, const int32_t *record, size_t record_count,
                             uint32_t x_shift, uint32_t y_shift, size_t pitch);
 
-/* Where a row lies in a frame of frame_length bytes. Writes SILL_COUNT_PLACE numbers: offset, length.
+/* Where a row lies in a frame of frame_length bytes. Writes SILL_COUNT_PLACE numbers: offset, length. It tests the record and goes through
+   the levels each time: for many rows of a level, ask sill_level_regions once, and row y of plane k begins at
+   offset + (k * height + y) * pitch.
    Numbers: 6 SILL_NO_RECORD, 7 SILL_BAD_SHIFT, 8 SILL_BAD_PITCH, 11 SILL_BAD_FRAME, 15 SILL_NO_ROOM, 19 SILL_NO_ROW. */
 uint32_t sill_row(size_t frame_length, const int32_t *record, size_t record_count, uint32_t x_shift, uint32_t y_shift, size_t pitch,
                   uint32_t level, size_t plane, size_t y, size_t *place, size_t place_count);

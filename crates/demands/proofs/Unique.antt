@@ -32,7 +32,7 @@ use Rattle.layouts.proofs.rows.row.Reads as row-reads
 use Rattle.layouts.proofs.margins.clear_margins.Reads as clear-margins-reads
 use Rattle.settings.proofs.super_opts.levels_of.Reads as levels-of-reads
 use Rattle.settings.proofs.super_opts.reduce_once.Reads as reduce-once-reads
-use Rattle.settings.proofs.super_opts.SuperOpts.is_settled.Reads as is-settled-reads
+use Rattle.settings.proofs.super_opts.SuperOpts.accepted_but_levels.Reads as accepted-but-levels-reads
 use Rattle.settings.proofs.super_opts.SuperOpts.accepted_height.Reads as accepted-height-reads
 use Rattle.settings.proofs.super_opts.SuperOpts.accepted_width.Reads as accepted-width-reads
 use Rattle.layouts.proofs.levels.width.Reads as width-reads
@@ -45,7 +45,7 @@ use Rattle.layouts.proofs.lent.scratch_need.Reads as scratch-need-reads
 use Rattle.layouts.proofs.lent.build_tested.Reads as build-tested-reads
 use Rattle.layouts.proofs.levels.bad_pitch.Reads as bad-pitch-reads
 use Rattle.layouts.proofs.margins.is_fused.Reads as is-fused-reads
-use Rattle.layouts.proofs.rows.row_within.Reads as row-within-reads
+use Rattle.layouts.proofs.rows.row_in.Reads as row-in-reads
 use Rattle.layouts.proofs.rows.hand_out.Reads as hand-out-reads
 use Rattle.builder.proofs.canvas.put.Reads as put-reads
 use Rattle.builder.proofs.canvas.span.Reads as span-reads
@@ -109,8 +109,8 @@ levels-of-unique κs x r s e f p q = determined itself p q
 pub reduce-once-unique : (κs : Lfts 0) → OneOutcome (reduce-once-reads.Post κs) (λ r e. r)
 reduce-once-unique κs x r s e f p q = determined itself p q
 
-pub is-settled-unique : (κs : Lfts 0) → OneOutcome (is-settled-reads.Post κs) (λ r e. r)
-is-settled-unique κs x r s e f p q = determined itself p q
+pub accepted-but-levels-unique : (κs : Lfts 0) → OneOutcome (accepted-but-levels-reads.Post κs) (λ r e. r)
+accepted-but-levels-unique κs x r s e f p q = determined itself p q
 
 pub accepted-height-unique : (κs : Lfts 0) → OneOutcome (accepted-height-reads.Post κs) (λ r e. r)
 accepted-height-unique κs x r s e f p q = determined itself p q
@@ -148,8 +148,8 @@ bad-pitch-unique κs x r s e f p q = determined itself p q
 pub is-fused-unique : (κs : Lfts 0) → OneOutcome (is-fused-reads.Post κs) (λ r e. r)
 is-fused-unique κs x r s e f p q = determined itself p q
 
-pub row-within-unique : (κs : Lfts 0) → OneOutcome (row-within-reads.Post κs) (λ r e. r)
-row-within-unique κs x r s e f p q = determined placed-known p q
+pub row-in-unique : (κs : Lfts 0) → OneOutcome (row-in-reads.Post κs) (λ r e. r)
+row-in-unique κs x r s e f p q = determined placed-known p q
 
 pub hand-out-unique : (κs : Lfts 1) → OneOutcome {O = (ℕ × ℕ) × List ℕ} (hand-out-reads.Post κs) (λ r e. (ptr r, now r))
 hand-out-unique κs x r s e f p q = rw (determined itself (p .0) (q .0), determined itself (p .1) (q .1))

@@ -97,7 +97,7 @@ start-first r = refl
 pub start-next : (r : SuperOpts) (k : ℕ) → startOf r (k + 1) ≡ startOf r k + lengthOf r k
 start-next r k = ap (startOf r) (add-one k) ∙ total-suc (lengthOf r) k
 
--- where U, where V and where the third part starts or ends; V is as long as U
+-- where U and V start, and where V ends, which is as long as U
 pub starts : (r : SuperOpts) → (lengthOf r 0 ≡ startOf r 1) × (lengthOf r 0 + lengthOf r 1 ≡ startOf r 2) × (lengthOf r 0 + lengthOf r 1 + lengthOf r 1 ≡ startOf r 3)
 unfolding total
 starts r = (omega arith, omega arith, omega arith)

@@ -1,4 +1,4 @@
--- A row of a part: its number, in a frame that is the part alone and in the whole; where it lies in the whole, and that it ends in it. Assumes nothing.
+-- A row of a part: where it lies in the whole frame, its number there, and that it ends in it. Assumes nothing.
 use mathlib.Core.Path.{_≡_, refl, sym, ap, _∙_}
 use mathlib.Core.Bool.{false}
 use mathlib.Core.List.{List}
@@ -13,11 +13,10 @@ use Rattle.settings.specs.Numbers.{refuse, _then_}
 use Rattle.settings.specs.Answers.{Answer, answer, ifDone, number}
 use Rattle.settings.proofs.Refusals.{then-first, then-rest, refuse-not}
 use Rattle.settings.proofs.Known.{given, refused, number-of, value-given}
-use Rattle.layouts.specs.declared.layout.Layout.{Layout}
 use Rattle.layouts.specs.declared.rows.Run.{Run}
 use Rattle.layouts.specs.Layout.{widthAt, rowStart}
-use Rattle.layouts.specs.Refusals.{frameNo, noRow, rowNo}
-use Rattle.layouts.specs.Answers.{runOf, noRun, placeAnswer}
+use Rattle.layouts.specs.Refusals.{noRow}
+use Rattle.layouts.specs.Answers.{runOf, noRun}
 use Rattle.layouts.specs.Room.{mostOffset}
 use Rattle.layouts.proofs.Layouts.{then-kept, row-ends, run-ends}
 use Rattle.frames.specs.Parts.{planeOf, lengthOf, startOf, joinedEnd, planesNo, partNo, rowInNo, runInOf, placeInAnswer, rowInPart, rowInFrom}
@@ -48,14 +47,7 @@ pub part-long : (r : SuperOpts) (len k : ℕ) → planesNo r ≡ 0 → joinedEnd
 part-long r len k none le = rw (none, le-ltb len (joinedEnd r) le) refl
 
 module _ (r : SuperOpts) (k l j y : ℕ) where
-  -- ---- in a frame that is the part alone
-  alone : planesNo r ≡ 0 → rowNo (planeOf r k) (lengthOf r k) l j y ≡ refuse (noRow (planeOf r k) l j y) 19
-  unfolding rowNo frameNo
-  alone e = rw (laid-out r e k, le-ltb (lengthOf r k) (lengthOf r k) (omega arith)) refl
-
-  pub placed-alone : planesNo r ≡ 0 → {q : Layout} {n : ℕ} {a : Answer Run} → q ≡ planeOf r k → n ≡ lengthOf r k → a ≡ placeAnswer q n l j y → a ≡ ifDone (refuse (noRow (planeOf r k) l j y) 19) (runOf (planeOf r k) l j y) noRun
-  placed-alone e is long at = at ∙ rw (is, long, alone e) refl
-
+  -- in a frame that is the part alone
   ends-alone : planesNo r ≡ 0 → noRow (planeOf r k) l j y ≡ false → rowStart (planeOf r k) l j y + widthAt (planeOf r k) l ≤ lengthOf r k
   ends-alone e none = row-ends (planeOf r k) (lengthOf r k) l j y (record { frame = record { layout = laid-out r e k; end = omega arith }; none = none })
 

@@ -16,7 +16,7 @@ use layouts::levels::offset;
 use layouts::rows::Placed;
 use layouts::rows::Run;
 use layouts::rows::hand_out;
-use layouts::rows::row_within;
+use layouts::rows::row_in;
 use settings::refusal::BadLent;
 use settings::refusal::BadPlanes;
 use settings::refusal::Refusal;
@@ -122,6 +122,7 @@ pub(crate) fn parts_of(opts: SuperOpts) -> Parts
     }
 }
 
+// By its number. The record is there for the contract alone.
 pub(crate) fn part_of(opts: SuperOpts, parts: Parts, part: u32) -> Part
     requires { ⌜ (parts ≡ partsOf opts) × (part ≤ 2) ⌝ }
     ensures { λ r. ⌜ r ≡ partOf opts part ⌝ }
@@ -158,7 +159,7 @@ fn place_in(opts: SuperOpts, len: usize, part: u32, level: u32, plane: usize, y:
         return Placed::Refused(Refusal::NoRow);
     }
     let own = part_of(opts, parts, part);
-    match row_within(plane_of(opts, part), own.length, level, plane, y) {
+    match row_in(plane_of(opts, part), level, plane, y) {
         Placed::At(run) => Placed::At(Run {
             offset: own.start + run.offset,
             length: run.length,

@@ -1,4 +1,4 @@
-// A walk down a plane's levels, which carries what it has reached: each level's size and place come from those of the level above, so that a call walks down once.
+// A walk down a plane's levels, which carries what it has reached: each level's size and place come from those of the level above, and none is reduced from the full size again.
 // First where it starts; then one level further, and down to a level; last the region of the level that it has reached.
 ghost use mathlib.Core.Path.{_≡_};
 ghost use Prim.Native.Nat.{_+_, _≤_, _<_};

@@ -1,4 +1,4 @@
-// A row of a frame: the number that says whether there is one, where it lies, and its bytes, which are the caller's own.
+// A row of a frame: where it lies, the number that says whether there is one, and its bytes, which are the caller's own.
 ghost use mathlib.Core.Path.{_≡_};
 ghost use Prim.Native.Nat.{_+_, _≤_, _<_};
 ghost use lib.ListN.{length, take, drop};
@@ -45,8 +45,22 @@ fn placed_at(at: Descent, layout: Layout, level: u32, plane: usize, y: usize) ->
     })
 }
 
-// For a layout that isn't refused: the walk to the level goes on to where the last one ends. Refusals 11 and 19.
-pub fn row_within(layout: Layout, len: usize, level: u32, plane: usize, y: usize) -> Placed
+// Row y of a plane of a level, in a frame that is long enough. A level that isn't there is told first: no walk reaches it. Refusal 19.
+pub fn row_in(layout: Layout, level: u32, plane: usize, y: usize) -> Placed
+    requires { ⌜ layoutNo layout ≡ 0 ⌝ }
+    ensures { λ r. ⌜ placed r ≡ ifDone (refuse (noRow layout level plane y) 19) (runOf layout level plane y) noRun ⌝ }
+{
+    let opts = layout.opts;
+    let n = opts.naturals();
+    if n.levels <= level {
+        return Placed::Refused(Refusal::NoRow);
+    }
+    let at = Descent::top(layout).down(layout, 0, level);
+    placed_at(at, layout, level, plane, y)
+}
+
+// In a frame of len bytes: the walk to the level goes on to where the last one ends. Refusals 11 and 19.
+fn row_within(layout: Layout, len: usize, level: u32, plane: usize, y: usize) -> Placed
     requires { ⌜ layoutNo layout ≡ 0 ⌝ }
     ensures { λ r. ⌜ placed r ≡ placeAnswer layout len level plane y ⌝ }
 {
@@ -77,7 +91,7 @@ pub fn row_place(layout: Layout, len: usize, level: u32, plane: usize, y: usize)
     }
 }
 
-// The number of that row.
+// What that row is refused with: 6, 7, 8, 11 or 19.
 pub fn row_tested(layout: Layout, len: usize, level: u32, plane: usize, y: usize) -> Tested
     ensures { λ r. ⌜ tested r ≡ rowNo layout len level plane y ⌝ }
 {

@@ -64,7 +64,7 @@ pub fn read_body(body: &[u8]) -> Checked
     ensures { λ r. ⌜ checked r ≡ ifDone (refuse (not (kind1Good (now (body .entry)))) 18) (kind1Record (now (body .entry))) noRecord ⌝ }
 {
     let opts = spelled(body);
-    let good = opts.is_settled() & (body[6] < 8);
+    let good = opts.accepted_but_levels() & (body[6] < 8);
     if good {
         return Checked::Accepted(opts);
     }

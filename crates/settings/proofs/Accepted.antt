@@ -17,6 +17,7 @@ use Rattle.settings.specs.Limits.{mostSide, mostLevels}
 use Rattle.settings.specs.Numbers.{isNat, toNat, isI32, refuse, _then_}
 use Rattle.settings.specs.Sizes.{autoLevels}
 use Rattle.settings.specs.Check.{intOr, settled, isPel, isGpu, noFinest, badLean, isSide, settingsNo, pelOf, lumaW, lumaH, levelCount, accepted, recordNo, optI32, SettingsI32, RecordI32}
+use Rattle.settings.specs.Inner.{acceptedButLevels}
 use Rattle.settings.specs.Answers.{Answer, answer, ifDone, noRecord, checkAnswer, Returns}
 use Rattle.settings.proofs.Tests.{and-left, and-right, and-yes, or-cases, or-false-left, or-false-right}
 use Rattle.settings.proofs.Refusals.{then-first, then-rest, refuse-not}
@@ -51,12 +52,12 @@ unfolding accepted
 fine-accepted r f = rw (f .none, f .up, f .levels) (eq-eqb (autoLevels (lumaW r) (lumaH r)) (autoLevels (lumaW r) (lumaH r)) refl)
 
 -- a record whose levels are those of its size
-pub settled-accepted : (r : SuperOpts) → r .levels ≡ pos (autoLevels (lumaW r) (lumaH r)) → (eqb (settingsNo r) 0 && (isNat (r .gpu) 0 || isNat (r .«scale_up») 0)) ≡ accepted r
+pub but-levels-accepted : (r : SuperOpts) → r .levels ≡ pos (autoLevels (lumaW r) (lumaH r)) → acceptedButLevels r ≡ accepted r
 unfolding accepted
-settled-accepted r e =
+but-levels-accepted r e =
     let n = autoLevels (lumaW r) (lumaH r) in
-    let settled = eqb (settingsNo r) 0 && (isNat (r .gpu) 0 || isNat (r .«scale_up») 0) in
-    sym (ap (λ (z : ℤ). settled && isNat z n) e ∙ ap (λ (t : Bool). settled && t) (eq-eqb n n refl) ∙ and-yes settled)
+    let rest = acceptedButLevels r in
+    sym (ap (λ (z : ℤ). rest && isNat z n) e ∙ ap (λ (t : Bool). rest && t) (eq-eqb n n refl) ∙ and-yes rest)
 
 -- ---- number 6
 -- `t` is what a call of `accepted` gave

@@ -1,14 +1,14 @@
 // The settings check, the word and the super sizes: open-svpflow's super_opts.rs, its names kept.
 // First the types; then `SuperOpts::from_opt` and what it is made of; `accepted`; `pack_data`; the super sizes; and last reducing and levels.
 ghost use mathlib.Core.Path.{_≡_};
-ghost use mathlib.Core.Bool.{true, cond, not, _&&_, _||_};
+ghost use mathlib.Core.Bool.{true, cond, not};
 ghost use Prim.Native.Nat.{_+_, _*_, _<_, _≤_, _^_, max};
-ghost use lib.Dec.{eqb};
 ghost use lib.IntN.{pos};
 ghost use Rattle.settings.specs.Limits.{mostSide, mostLevels};
 ghost use Rattle.settings.specs.Numbers.{isNat, toNat, bit};
 ghost use Rattle.settings.specs.Sizes.{reduce, reduced, autoLevels};
 ghost use Rattle.settings.specs.Check.{intOr, boolOr, upBy, settled, isPel, isGpu, noFinest, badLean, isSide, settingsNo, naturalsOf, accepted, upward, raisedToEven, fullHeight, packedHeight, superHeight, superWidth};
+ghost use Rattle.settings.specs.Inner.{acceptedButLevels};
 ghost use Rattle.settings.specs.Word.{wordOf};
 ghost use Rattle.settings.specs.Answers.{tested, checked, checkAnswer, packed, packAnswer, sized, heightAnswer, widthAnswer};
 use crate::limits::MOST_PACKED;
@@ -200,9 +200,9 @@ impl SuperOpts {
                 | (self.scale_down != DEFAULT_SCALE_DOWN))
     }
 
-    // Whether the check can return this record, but for its levels: enough where these were counted from its own size.
-    pub fn is_settled(self) -> bool
-        ensures { λ r. ⌜ r ≡ (eqb (settingsNo self) 0 && (isNat (self .gpu) 0 || isNat (self .«scale_up») 0)) ⌝ }
+    // All that `accepted` asks but the levels: enough where these were just counted from the record's own size.
+    pub fn accepted_but_levels(self) -> bool
+        ensures { λ r. ⌜ r ≡ acceptedButLevels self ⌝ }
     {
         let fine = self.tested().is_fine();
         fine & ((self.gpu == 0) | (self.scale_up == 0))
@@ -212,7 +212,7 @@ impl SuperOpts {
     pub fn accepted(self) -> bool
         ensures { λ r. ⌜ r ≡ accepted self ⌝ }
     {
-        self.is_settled() & (self.levels == levels_of(self.width, self.height))
+        self.accepted_but_levels() & (self.levels == levels_of(self.width, self.height))
     }
 
     pub fn naturals(self) -> Naturals
@@ -344,7 +344,6 @@ pub fn reduce_dim(dim: u32, n: u32) -> u32
     d
 }
 
-// Each level's size is reduced from the one above it.
 fn auto_levels(width: u32, height: u32) -> u32
     ensures { λ r. ⌜ r ≡ autoLevels width height ⌝ }
 {

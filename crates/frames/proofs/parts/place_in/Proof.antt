@@ -10,13 +10,14 @@ use Rattle.settings.specs.declared.refusal.BadLent.the-variants.{Frame}
 use Rattle.settings.specs.Numbers.{refuse}
 use Rattle.settings.specs.Answers.{ifDone}
 use Rattle.settings.proofs.Known.{refused, number-of}
+use Rattle.layouts.specs.declared.layout.Layout.{Layout}
 use Rattle.layouts.specs.Refusals.{noRow}
 use Rattle.layouts.specs.Answers.{runOf, noRun, placed}
 use Rattle.frames.specs.declared.parts.Part.{Part}
 use Rattle.frames.specs.declared.parts.Parts.{Parts}
 use Rattle.frames.specs.Parts.{planeOf, joinedEnd, partNo, runInOf}
 use Rattle.frames.proofs.Laid.{laid-plane}
-use Rattle.frames.proofs.Rows.{part-short, part-long, placed-alone, moved, moved-le, placed-in, refused-in}
+use Rattle.frames.proofs.Rows.{part-short, part-long, moved, moved-le, placed-in, refused-in}
 use Rattle.frames.proofs.parts.place_in.Statement.{statement}
 use Rattle.frames.proofs.parts.place_in.Tie as tie
 
@@ -30,12 +31,11 @@ there c =
     let some : leb 3 (a .part) ≡ false = lt-leb 3 (a .part) (omega (arith, c .if2 .left)) in
     sym (part-long (a .opts) (a .len) (a .part) (s .pre) (omega (arith, end (c .before .before .before), c .before .if1 .left))) ∙ ap (λ t. refuse t 19) some
 
--- what `row_within` answers
-known : (c : tie.After-row-within) → placed (c .row-within .result) ≡ ifDone (refuse (noRow (planeOf (c .before .before .before .before .before .before .before .args .opts) (c .before .before .before .before .before .before .before .args .part)) (c .before .before .before .before .before .before .before .args .level) (c .before .before .before .before .before .before .before .args .plane) (c .before .before .before .before .before .before .before .args .y)) 19) (runOf (planeOf (c .before .before .before .before .before .before .before .args .opts) (c .before .before .before .before .before .before .before .args .part)) (c .before .before .before .before .before .before .before .args .level) (c .before .before .before .before .before .before .before .args .plane) (c .before .before .before .before .before .before .before .args .y)) noRun
+-- what `row_in` answers
+known : (c : tie.After-row-in) → placed (c .row-in .result) ≡ ifDone (refuse (noRow (planeOf (c .before .before .before .before .before .before .before .args .opts) (c .before .before .before .before .before .before .before .args .part)) (c .before .before .before .before .before .before .before .args .level) (c .before .before .before .before .before .before .before .args .plane) (c .before .before .before .before .before .before .before .args .y)) 19) (runOf (planeOf (c .before .before .before .before .before .before .before .args .opts) (c .before .before .before .before .before .before .before .args .part)) (c .before .before .before .before .before .before .before .args .level) (c .before .before .before .before .before .before .before .args .plane) (c .before .before .before .before .before .before .before .args .y)) noRun
 known c =
-    let s = c .before .before .before .before .before .before .before in
-    let a = s .args in
-    placed-alone (a .opts) (a .part) (a .level) (a .plane) (a .y) (s .pre) (c .before .plane-of .ensures) (ap (λ (p : Part). p .length) (c .before .before .part-of .ensures)) (c .row-within .ensures)
+    let a = c .before .before .before .before .before .before .before .args in
+    c .row-in .ensures ∙ ap (λ (q : Layout). ifDone (refuse (noRow q (a .level) (a .plane) (a .y)) 19) (runOf q (a .level) (a .plane) (a .y)) noRun) (c .before .plane-of .ensures)
 
 parts-of-requires : tie.Need-parts-of-requires
 parts-of-requires c κs = c .pre
@@ -59,8 +59,8 @@ part-of-requires c κs = (c .before .before .before .parts-of .ensures, omega (a
 plane-of-requires : tie.Need-plane-of-requires
 plane-of-requires c κs = tt
 
-row-within-requires : tie.Need-row-within-requires
-row-within-requires c κs =
+row-in-requires : tie.Need-row-in-requires
+row-in-requires c κs =
     let s = c .before .before .before .before .before .before in
     laid-plane (s .args .opts) (s .pre) (s .args .part) (c .plane-of .ensures)
 
@@ -101,7 +101,7 @@ place-in-spec =
     returns-2
     part-of-requires
     plane-of-requires
-    row-within-requires
+    row-in-requires
     enum-known-run
     add-t18
     enum-known-f

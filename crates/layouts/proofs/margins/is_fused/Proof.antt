@@ -1,48 +1,56 @@
 -- `is_fused` meets its contract. Assumes nothing.
 use mathlib.Core.Path.{ap, _∙_}
-use Prim.Native.Nat.{_-_, _<_}
+use Prim.Native.Nat.{_≤_}
 use native.Mathlib.Omega.{arith}
-use lib.Dec.{lit<}
 use borrow.Author.Needs.{needs}
-use Rattle.settings.proofs.Integers.{is-by-bits}
-use Rattle.layouts.specs.declared.layout.Region.{Region}
-use Rattle.layouts.specs.Margins.{fusedAt}
-use Rattle.layouts.proofs.Layouts.{allowed, levels-le, region-there, height-le, width-le, offset-le}
+use Rattle.settings.specs.Limits.{mostLevels}
+use Rattle.layouts.specs.declared.descent.Descent.{Descent}
+use Rattle.layouts.specs.Layout.{levelsOf}
+use Rattle.layouts.specs.Descent.{reached}
+use Rattle.layouts.proofs.Layouts.{allowed, levels-le}
 use Rattle.layouts.proofs.margins.is_fused.Statement.{statement}
 use Rattle.layouts.proofs.margins.is_fused.Tie as tie
 
-sub-offset : tie.Need-sub-offset
-sub-offset c = search needs
+few : (c : tie.Start) → levelsOf (c .args .layout) ≤ mostLevels
+few c = levels-le (c .args .layout) (allowed (c .args .layout) (c .pre .0))
 
-offset-requires : tie.Need-offset-requires
-offset-requires c κs = let s = c .before in (s .pre .0, omega (arith, levels-le (s .args .layout) (allowed (s .args .layout) (s .pre .0))))
+top-requires : tie.Need-top-requires
+top-requires c κs = tt
+
+sub-down : tie.Need-sub-down
+sub-down c = search needs
+
+down-requires : tie.Need-down-requires
+down-requires c κs = let s = c .before in (s .pre .0, omega arith, omega (arith, few s, s .pre .2), c .top .ensures)
+
+sub-next : tie.Need-sub-next
+sub-next c = search needs
+
+next-requires : tie.Need-next-requires
+next-requires c κs = let s = c .before .before in (s .pre .0, omega (arith, few s, s .pre .1, s .pre .2), c .down .ensures)
 
 region-requires : tie.Need-region-requires
-region-requires c κs = search needs
-
-cubic-fits-requires : tie.Need-cubic-fits-requires
-cubic-fits-requires c κs =
+region-requires c κs =
     let s = c .before .before .before in
-    let q = s .args .layout in
-    let l = s .args .level in
-    let a = allowed q (s .pre .0) in
-    let t = c .region .ensures ∙ region-there q l (s .pre .2) in
-    let low = levels-le q a in
-    let o = c .before .offset .ensures in
-    let o0 = ap (λ (x : Region). x .offset) t in
-    let o1 = ap (λ (x : Region). x .width) t in
-    let o2 = ap (λ (x : Region). x .height) t in
-    (omega (arith, o, offset-le q a (l - 1) (omega arith)), a .most, omega (arith, o0, offset-le q a l (omega arith)), omega (arith, o1, width-le q a l), omega (arith, o2, height-le q a l))
+    (s .pre .0, c .next .ensures ∙ ap (reached (s .args .layout)) (omega (arith, s .pre .1)))
+
+fuses-requires : tie.Need-fuses-requires
+fuses-requires c κs =
+    let s = c .before .before .before .before in
+    (s .pre .0, s .pre .2, ap (λ (d : Descent). d .offset) (c .before .before .down .ensures), c .region .ensures)
 
 returns : tie.Need-returns
-unfolding fusedAt
-returns c =
-    let k = c .before .before .before in
-    let s = k .before .before .before .before in
-    let q = s .args .layout in
-    let t = k .before .region .ensures ∙ region-there q (s .args .level) (s .pre .2) in
-    rw (is-by-bits (q .opts .«scale_down») 4 (search needs) (lit< tt), k .cubic-fits .ensures, k .before .before .offset .ensures, t)
+returns c = search needs
 
 pub is-fused-spec : {M : Type 1} → statement M
 is-fused-spec =
-    tie.close (tie.spec sub-offset offset-requires region-requires cubic-fits-requires returns)
+    tie.close
+    (tie.spec
+    top-requires
+    sub-down
+    down-requires
+    sub-next
+    next-requires
+    region-requires
+    fuses-requires
+    returns)

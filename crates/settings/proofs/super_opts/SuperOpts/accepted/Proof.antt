@@ -11,8 +11,8 @@ use Rattle.settings.proofs.super_opts.SuperOpts.accepted.Tie as tie
 fields : (c : tie.After-struct-told) → FieldsFit (c .before .before .args .self)
 fields c = search needs
 
-is-settled-requires : tie.Need-is-settled-requires
-is-settled-requires c κs = tt
+accepted-but-levels-requires : tie.Need-accepted-but-levels-requires
+accepted-but-levels-requires c κs = tt
 
 levels-of-requires : tie.Need-levels-of-requires
 levels-of-requires c κs = tt
@@ -24,8 +24,8 @@ returns c =
     let settled = l .before .before .before in
     let r = settled .before .args .self in
     let f = fields (l .before .before) in
-    rw (settled .is-settled .ensures, l .levels-of .ensures, same (r .width) (f .width), same (r .height) (f .height))
+    rw (settled .accepted-but-levels .ensures, l .levels-of .ensures, same (r .width) (f .width), same (r .height) (f .height))
     (rw (is-by-bits (r .levels) (autoLevels (toNat (r .width)) (toNat (r .height))) (f .levels) (levels-fit (r .width) (r .height) (f .width))))
 
 pub accepted-spec : {M : Type 1} → statement M
-accepted-spec = tie.close (tie.spec is-settled-requires levels-of-requires returns)
+accepted-spec = tie.close (tie.spec accepted-but-levels-requires levels-of-requires returns)

@@ -1,10 +1,10 @@
--- `is_settled` meets its contract. Assumes nothing.
+-- `accepted_but_levels` meets its contract. Assumes nothing.
 use lib.Dec.{lit<}
 use borrow.Author.Needs.{needs}
 use Rattle.settings.proofs.Fields.{FieldsFit}
 use Rattle.settings.proofs.Integers.{is-by-bits}
-use Rattle.settings.proofs.super_opts.SuperOpts.is_settled.Statement.{statement}
-use Rattle.settings.proofs.super_opts.SuperOpts.is_settled.Tie as tie
+use Rattle.settings.proofs.super_opts.SuperOpts.accepted_but_levels.Statement.{statement}
+use Rattle.settings.proofs.super_opts.SuperOpts.accepted_but_levels.Tie as tie
 
 fields : (c : tie.After-struct-told) → FieldsFit (c .before .before .before .before .args .self)
 fields c = search needs
@@ -22,5 +22,5 @@ returns c =
     let f = fields (c .before .before) in
     rw (fine .is-fine .ensures, fine .before .tested .ensures, is-by-bits (r .gpu) 0 (f .gpu) (lit< tt), is-by-bits (r .«scale_up») 0 (f .up) (lit< tt))
 
-pub is-settled-spec : {M : Type 1} → statement M
-is-settled-spec = tie.close (tie.spec tested-requires is-fine-requires returns)
+pub accepted-but-levels-spec : {M : Type 1} → statement M
+accepted-but-levels-spec = tie.close (tie.spec tested-requires is-fine-requires returns)
