@@ -44,7 +44,8 @@
 
    Layouts. A plane of the picture is laid out by a record, two shifts and a pitch: its level k has (width >> x_shift) by
    (height >> y_shift) bytes, width and height being level k's. A shift is 0 for a plane of the picture's own size and 1 for one of
-   half its width or height. Rows of a frame begin pitch bytes apart. Where the pitch is below level 0's width raised to a multiple of 16,
+   half its width or height. Rows of a frame begin pitch bytes apart; the least pitch goes by the plane's own width, at level 1 also
+   where there is no such level. Where the pitch is below level 0's width raised to a multiple of 16,
    the planes between may run over into the first bytes of what follows them, another plane or level 1, as in the Rust; so bytes of rows
    go by the pitch.
 
@@ -74,7 +75,7 @@ enum {
     SILL_BAD_SIZE = 5,         /* width or height outside 1 to 16,384 */
     SILL_NO_RECORD = 6,        /* a record handed in is no accepted record */
     SILL_BAD_SHIFT = 7,        /* a shift above 1 */
-    SILL_BAD_PITCH = 8,        /* pitch below max(1, least) or above 32,768; least is the plane's width at level 0 if full, else at level 1, also where there is no level 1 */
+    SILL_BAD_PITCH = 8,        /* pitch below max(1, least) or above 32,768; least is level 0's width if full, else level 1's */
     SILL_BAD_SOURCE_PITCH = 9, /* source pitch below max(1, level 0's width) or above 32,768 */
     SILL_BAD_SOURCE = 10,      /* source shorter than (h - 1) * source pitch + w; 0 bytes suffice if w or h is 0 */
     SILL_BAD_FRAME = 11,       /* frame shorter than the written end */
