@@ -11,7 +11,7 @@ extern void rust_build(uint8_t *frame, size_t frame_count, const int32_t *record
 
 static uint8_t src[SOURCE], frame[FRAME], want[FRAME], spill[SOURCE], scratch[16 * (1920 + 16)];
 static int32_t record[SILL_COUNT_RECORD], sizes[SILL_COUNT_SIZES];
-static size_t end, needs[SILL_COUNT_NEEDS], pitch, src_pitch;
+static size_t layout[SILL_COUNT_LAYOUT], end, needs[SILL_COUNT_NEEDS], pitch, src_pitch;
 static uint32_t shift;
 
 static int laid_out(char **set) {
@@ -22,12 +22,13 @@ static int laid_out(char **set) {
     if (sill_check(given, n[0], n[1], n[2], n[3], n[4], 0, 0, n[6], n[7], record, SILL_COUNT_RECORD)) return 0;
     if (sill_super_sizes(record, SILL_COUNT_RECORD, sizes, SILL_COUNT_SIZES)) return 0;
     pitch = (size_t)sizes[SILL_SIZE_WIDTH] >> shift, src_pitch = (size_t)n[6] >> shift;
-    if (sill_written_end(record, SILL_COUNT_RECORD, shift, shift, pitch, &end, 1)) return 0;
-    return !sill_needs(record, SILL_COUNT_RECORD, shift, shift, pitch, needs, SILL_COUNT_NEEDS);
+    if (sill_layout(record, SILL_COUNT_RECORD, shift, shift, pitch, layout, SILL_COUNT_LAYOUT)) return 0;
+    if (sill_written_end(record, SILL_COUNT_RECORD, layout, SILL_COUNT_LAYOUT, &end, 1)) return 0;
+    return !sill_needs(record, SILL_COUNT_RECORD, layout, SILL_COUNT_LAYOUT, needs, SILL_COUNT_NEEDS);
 }
 
 static uint32_t build_ours(void) {
-    return sill_build_plane(frame, end, spill, needs[SILL_NEED_SPILL], scratch, needs[SILL_NEED_SCRATCH], record, SILL_COUNT_RECORD, shift, shift, pitch, src, SOURCE, src_pitch);
+    return sill_build_plane(frame, end, spill, needs[SILL_NEED_SPILL], scratch, needs[SILL_NEED_SCRATCH], record, SILL_COUNT_RECORD, layout, SILL_COUNT_LAYOUT, src, SOURCE, src_pitch);
 }
 
 static void build_rust(uint8_t *to) { rust_build(to, end, record, shift, shift, pitch, src, SOURCE, src_pitch); }

@@ -5,8 +5,10 @@
    sizes and layouts, one plane, three planes.
 
    Numbers. Each call but sill_prepare_alike returns 0 where it is done, else the number that says why not: those of document 01's
-   table, and document 02's 15 to 18, 23 and 24, which the table leaves free. Where more than one applies the lowest is given, and none
-   other; sill_longhand_read, sill_frame_row and sill_build_frame have an order of their own, told there.
+   table, and document 02's 15 to 18, 23, 24 and 32, which the table leaves free. Where more than one applies the lowest is given, and
+   none other. These have an order of their own, told there: sill_longhand_read, sill_frame_row and sill_build_frame; and
+   sill_layout_change, sill_clear_margins, sill_row, sill_level_plane and sill_build_plane, in which 32, the layout's, stands right after
+   6, the record's, and before the rest.
 
    Slices. A slice is a pointer and then a count of elements, and the pointer is aligned for its type, as C's own arrays are.
    Where the count is 0 the pointer isn't looked at and may be NULL: a slice that is missing is a slice of length 0, and gets the
@@ -48,11 +50,23 @@
    where there is no such level. Where the pitch is below level 0's width raised to a multiple of 16,
    the planes between may run over into the first bytes of what follows them, another plane or level 1, as in the Rust; so bytes of rows
    go by the pitch.
+   A layout is SILL_COUNT_LAYOUT numbers: the count of levels, the two shifts, the pitch, then for each of SILL_MOST_LEVELS levels its
+   offset, width and height, zeros past the last level. sill_layout makes it once; the calls about that plane take it, beside its
+   record, in place of shifts and pitch. Each plane of a level takes height * pitch bytes, one after another from the level's offset; of
+   a record that isn't full, level 0 is listed with its size and nothing of it is stored.
+   Each call holds the layout to its record: a slice that isn't exactly what sill_layout gives for this record and the layout's own
+   shifts and pitch is refused with SILL_BAD_LAYOUT, as another count of elements, a number changed, past the last level too, a shift
+   above 1, or a pitch that sill_layout refuses. It goes by the numbers, not by where they came from: a copy does. A later, larger limit
+   on the levels will add numbers at the end and move no place.
+   For a row now and then, ask sill_row: each time it tests the record and the layout, in one walk down the levels. For many rows, ask
+   sill_level_plane once for each level's plane, and step from its start by the pitch.
 
    Three planes. A picture of Y, U and V has one frame of three parts, Y's, U's and V's, which follow each other from its first byte on.
    Y is laid out by shifts 0, 0 and the picture's width as pitch, U and V by shifts 1, 1 and floor(width / 2); a part is as long as its
    plane's written end. So no pitch of the frame is asked for: those that are handed in are the sources'. A record has such a frame if it
-   is full and both sides are at least 2; with a side of 2 or 3 it has no level, and is 0 bytes long.
+   is full and both sides are at least 2; with a side of 2 or 3 it has no level, and is 0 bytes long. These calls take no layout. For
+   many rows of a part, make its layout by those shifts and that pitch, ask sill_level_plane with the part's length, and add the part's
+   start.
 
    No call allocates, keeps a pointer, prints, or has a state: calls with slices of their own may run at the same time. */
 #ifndef SILLCANDLE_H
@@ -91,10 +105,11 @@ enum {
     SILL_NO_DOWN = 21,         /* halving filter isn't told */
     SILL_NO_UP = 22,           /* upscale filter isn't told */
     SILL_NO_CHROMA = 23,       /* three planes: width or height is below 2 */
-    SILL_NOT_FULL = 24         /* three planes: the record isn't full */
+    SILL_NOT_FULL = 24,        /* three planes: the record isn't full */
+    SILL_BAD_LAYOUT = 32       /* the layout isn't the one that its record gives */
 };
 
-/* How many elements a record has, and each call's answer. */
+/* How many elements a record has, and a layout, and each call's answer. */
 enum {
     SILL_COUNT_RECORD = 10,
     SILL_COUNT_WORD = 1,
@@ -102,10 +117,11 @@ enum {
     SILL_COUNT_LONGHAND = 21,
     SILL_COUNT_AFTER = 1,
     SILL_COUNT_SIZES = 2,
-    SILL_COUNT_REGIONS = 40,
+    SILL_COUNT_LAYOUT = 43,
     SILL_COUNT_END = 1,
     SILL_COUNT_NEEDS = 2,
     SILL_COUNT_PLACE = 2,
+    SILL_COUNT_PLANE = 4,
     SILL_COUNT_PARTS = 12
 };
 
@@ -121,19 +137,25 @@ enum {
     SILL_TOLD_DOWN_MATTERS, SILL_TOLD_DOWN, SILL_TOLD_UP_MATTERS, SILL_TOLD_UP
 };
 
-/* The places of regions: the count of levels, then for each of up to 13 levels its offset, its width and its height. */
+/* The places of a layout: the count of levels, the shifts and the pitch; then level 0's offset, width and height, and those of level k
+   k * SILL_LAYOUT_STEP places further on. */
 enum {
     SILL_MOST_LEVELS = 13,
-    SILL_REGION_COUNT = 0,
-    SILL_REGION_OFFSET = 1,
-    SILL_REGION_WIDTH = 14,
-    SILL_REGION_HEIGHT = 27
+    SILL_LAYOUT_LEVELS = 0,
+    SILL_LAYOUT_X_SHIFT = 1,
+    SILL_LAYOUT_Y_SHIFT = 2,
+    SILL_LAYOUT_PITCH = 3,
+    SILL_LAYOUT_OFFSET = 4,
+    SILL_LAYOUT_WIDTH = 5,
+    SILL_LAYOUT_HEIGHT = 6,
+    SILL_LAYOUT_STEP = 3
 };
 
-/* The places of a super frame's sizes, of what a build needs, and of where a row lies. */
+/* The places of a super frame's sizes, of what a build needs, of where a row lies, and of where a level's plane lies. */
 enum { SILL_SIZE_WIDTH, SILL_SIZE_HEIGHT };
 enum { SILL_NEED_SPILL, SILL_NEED_SCRATCH };
 enum { SILL_PLACE_OFFSET, SILL_PLACE_LENGTH };
+enum { SILL_PLANE_START, SILL_PLANE_WIDTH, SILL_PLANE_HEIGHT, SILL_PLANE_PITCH };
 
 /* The parts of a frame of three planes, in the order in which they are joined; then the places of what sill_frame_parts tells. */
 enum { SILL_Y, SILL_U, SILL_V };
@@ -195,43 +217,54 @@ uint32_t sill_longhand_read(const uint8_t *bytes, size_t bytes_count, int32_t *r
    Numbers: 6 SILL_NO_RECORD, 15 SILL_NO_ROOM. */
 uint32_t sill_super_sizes(const int32_t *record, size_t record_count, int32_t *sizes, size_t sizes_count);
 
-/* Where a plane's levels lie. Writes SILL_COUNT_REGIONS numbers: the count of levels, 13 offsets, 13 widths, 13 heights, zeros past the
-   last level. Each plane of a level takes height * pitch bytes, one after another from the level's offset; of a record that isn't
-   full, level 0 is listed with its size and nothing of it is stored.
+/* Makes a plane's layout, to be kept beside its record for the calls below. Writes SILL_COUNT_LAYOUT numbers.
    Numbers: 6 SILL_NO_RECORD, 7 SILL_BAD_SHIFT, 8 SILL_BAD_PITCH, 15 SILL_NO_ROOM. */
-uint32_t sill_level_regions(const int32_t *record, size_t record_count, uint32_t x_shift, uint32_t y_shift, size_t pitch,
-                            size_t *regions, size_t regions_count);
+uint32_t sill_layout(const int32_t *record, size_t record_count, uint32_t x_shift, uint32_t y_shift, size_t pitch,
+                     size_t *layout, size_t layout_count);
+
+/* Changes a layout in place to the one that sill_layout gives for these shifts and this pitch. A refusal leaves it as it was.
+   Numbers, in the order in which they are looked for: 6 SILL_NO_RECORD; 32 SILL_BAD_LAYOUT for the layout handed in; 7 SILL_BAD_SHIFT and
+   8 SILL_BAD_PITCH for the new shifts and pitch. */
+uint32_t sill_layout_change(const int32_t *record, size_t record_count, size_t *layout, size_t layout_count,
+                            uint32_t x_shift, uint32_t y_shift, size_t pitch);
 
 /* The end of the last level: how long a frame has to be. Writes 1 number.
-   Numbers: 6 SILL_NO_RECORD, 7 SILL_BAD_SHIFT, 8 SILL_BAD_PITCH, 15 SILL_NO_ROOM. */
-uint32_t sill_written_end(const int32_t *record, size_t record_count, uint32_t x_shift, uint32_t y_shift, size_t pitch,
+   Numbers: 6 SILL_NO_RECORD, 15 SILL_NO_ROOM, 32 SILL_BAD_LAYOUT. */
+uint32_t sill_written_end(const int32_t *record, size_t record_count, const size_t *layout, size_t layout_count,
                           size_t *end, size_t end_count);
 
 /* How many bytes a build has to be lent. Writes SILL_COUNT_NEEDS numbers: of spill, of scratch.
-   Numbers: 6 SILL_NO_RECORD, 7 SILL_BAD_SHIFT, 8 SILL_BAD_PITCH, 15 SILL_NO_ROOM. */
-uint32_t sill_needs(const int32_t *record, size_t record_count, uint32_t x_shift, uint32_t y_shift, size_t pitch,
+   Numbers: 6 SILL_NO_RECORD, 15 SILL_NO_ROOM, 32 SILL_BAD_LAYOUT. */
+uint32_t sill_needs(const int32_t *record, size_t record_count, const size_t *layout, size_t layout_count,
                     size_t *needs, size_t needs_count);
 
 /* Zeroes the bytes from a level's width to the pitch, in levels after 0 that the fused cubic doesn't make.
-   Numbers: 6 SILL_NO_RECORD, 7 SILL_BAD_SHIFT, 8 SILL_BAD_PITCH, 11 SILL_BAD_FRAME. */
+   Numbers, in the order in which they are looked for: 6 SILL_NO_RECORD, 32 SILL_BAD_LAYOUT, 11 SILL_BAD_FRAME. */
 uint32_t sill_clear_margins(uint8_t *frame, size_t frame_count, const int32_t *record, size_t record_count,
-                            uint32_t x_shift, uint32_t y_shift, size_t pitch);
+                            const size_t *layout, size_t layout_count);
 
-/* Where a row lies in a frame of frame_length bytes. Writes SILL_COUNT_PLACE numbers: offset, length. It tests the record and goes through
-   the levels each time: for many rows of a level, ask sill_level_regions once, and row y of plane k begins at
-   offset + (k * height + y) * pitch.
-   Numbers: 6 SILL_NO_RECORD, 7 SILL_BAD_SHIFT, 8 SILL_BAD_PITCH, 11 SILL_BAD_FRAME, 15 SILL_NO_ROOM, 19 SILL_NO_ROW. */
-uint32_t sill_row(size_t frame_length, const int32_t *record, size_t record_count, uint32_t x_shift, uint32_t y_shift, size_t pitch,
+/* Where a row lies in a frame of frame_length bytes. Writes SILL_COUNT_PLACE numbers: offset, length. For a row now and then: it tests
+   the record and the layout each time, in one walk down the levels. For many rows, sill_level_plane is asked once.
+   Numbers, in the order in which they are looked for: 6 SILL_NO_RECORD, 32 SILL_BAD_LAYOUT, 11 SILL_BAD_FRAME, 19 SILL_NO_ROW. Where
+   `place` is too short, 15 SILL_NO_ROOM stands in place of 0, 19 and 32. */
+uint32_t sill_row(size_t frame_length, const int32_t *record, size_t record_count, const size_t *layout, size_t layout_count,
                   uint32_t level, size_t plane, size_t y, size_t *place, size_t place_count);
+
+/* Where a level's plane lies in a frame of frame_length bytes. Writes SILL_COUNT_PLANE numbers: start, width, height, pitch. Row y, from
+   0 to height - 1, begins at start + y * pitch and has width bytes: what sill_row tells of each, asked once for all.
+   Numbers, in the order in which they are looked for: 6 SILL_NO_RECORD, 32 SILL_BAD_LAYOUT, 11 SILL_BAD_FRAME; 19 SILL_NO_ROW, no such
+   level or plane is stored. Where `place` is too short, 15 SILL_NO_ROOM stands in place of 0, 19 and 32. */
+uint32_t sill_level_plane(size_t frame_length, const int32_t *record, size_t record_count, const size_t *layout, size_t layout_count,
+                          uint32_t level, size_t plane, size_t *place, size_t place_count);
 
 /* Builds a plane in the frame from the source, whose rows begin src_pitch bytes apart. What spill and scratch held has no effect;
    after a finished build they are zero throughout. Frame bytes that no rule writes stay. What the frame held can reach the levels'
    bytes, as in the Rust: zero it first where a build has to be repeatable. In a frame that is longer than the written end bytes past it
    may be written: where something follows the plane, lend just its part.
-   Numbers: 6 SILL_NO_RECORD, 7 SILL_BAD_SHIFT, 8 SILL_BAD_PITCH, 9 SILL_BAD_SOURCE_PITCH, 10 SILL_BAD_SOURCE, 11 SILL_BAD_FRAME, 12 SILL_BAD_SPILL,
-   13 SILL_BAD_SCRATCH. */
+   Numbers, in the order in which they are looked for: 6 SILL_NO_RECORD, 32 SILL_BAD_LAYOUT, 9 SILL_BAD_SOURCE_PITCH, 10 SILL_BAD_SOURCE,
+   11 SILL_BAD_FRAME, 12 SILL_BAD_SPILL, 13 SILL_BAD_SCRATCH. With no level 9 and 10 go by the record's sides and the layout's shifts. */
 uint32_t sill_build_plane(uint8_t *frame, size_t frame_count, uint8_t *spill, size_t spill_count, uint8_t *scratch, size_t scratch_count,
-                          const int32_t *record, size_t record_count, uint32_t x_shift, uint32_t y_shift, size_t pitch,
+                          const int32_t *record, size_t record_count, const size_t *layout, size_t layout_count,
                           const uint8_t *src, size_t src_count, size_t src_pitch);
 
 /* Where the parts of a frame of three planes lie. Writes SILL_COUNT_PARTS numbers: for Y, for U and for V where the part starts, its pitch

@@ -34,6 +34,7 @@ static const char *sentence(uint32_t number) {
         [SILL_NO_UP] = "upscale filter isn't told",
         [SILL_NO_CHROMA] = "three planes: width or height is below 2",
         [SILL_NOT_FULL] = "three planes: the record isn't full",
+        [SILL_BAD_LAYOUT] = "the layout isn't the one that its record gives",
     };
     return number < sizeof all / sizeof *all && all[number] ? all[number] : "a number that isn't known here";
 }
@@ -53,17 +54,16 @@ static void done(uint32_t number) {
     if (number != SILL_DONE) refused(number, "%s", "");
 }
 
-/* The frame: a record, its parts and their bytes. One part is the plane of a PGM, three are Y, U and V; each has its shifts, and starts at a place of the frame. */
+/* The frame: a record, its parts and their bytes. One part is the plane of a PGM, three are Y, U and V; each has its layout, and starts at a place of the frame. */
 typedef struct {
-    uint32_t x, y;
-    size_t start, pitch, length, regions[SILL_COUNT_REGIONS];
-} layout;
+    size_t start, length, layout[SILL_COUNT_LAYOUT];
+} part;
 
 typedef struct {
     int32_t record[SILL_COUNT_RECORD], sizes[SILL_COUNT_SIZES];
     uint64_t word;
     size_t count, length, needs[SILL_COUNT_NEEDS];
-    layout parts[3];
+    part parts[3];
     uint8_t *bytes;
 } frame;
 
@@ -82,10 +82,10 @@ static void done_with_settings(uint32_t number, const int32_t set[7], int32_t wi
     }
 }
 
-static void done_with_layout(uint32_t number, const layout *p) {
+static void done_with_layout(uint32_t number, uint32_t x, uint32_t y, size_t pitch) {
     switch (number) {
-    case SILL_BAD_SHIFT: refused(number, "; given: shift-x %" PRIu32 ", shift-y %" PRIu32, p->x, p->y);
-    case SILL_BAD_PITCH: refused(number, "; given: pitch %zu", p->pitch);
+    case SILL_BAD_SHIFT: refused(number, "; given: shift-x %" PRIu32 ", shift-y %" PRIu32, x, y);
+    case SILL_BAD_PITCH: refused(number, "; given: pitch %zu", pitch);
     default: done(number);
     }
 }
@@ -96,17 +96,15 @@ static void done_with_parts(uint32_t number, const int32_t *record) {
     done(number);
 }
 
-static void lay_out_levels(frame *f, layout *p) {
-    done_with_layout(sill_level_regions(f->record, SILL_COUNT_RECORD, p->x, p->y, p->pitch, p->regions, SILL_COUNT_REGIONS), p);
+static void lay_out(const frame *f, part *p, uint32_t x, uint32_t y, size_t pitch) {
+    done_with_layout(sill_layout(f->record, SILL_COUNT_RECORD, x, y, pitch, p->layout, SILL_COUNT_LAYOUT), x, y, pitch);
 }
 
 static void lay_out_one(frame *f, const options *o, const picture *from) {
-    layout *p = f->parts;
-    p->x = (uint32_t)o->x, p->y = (uint32_t)o->y;
-    p->pitch = o->pitch_given ? (size_t)o->pitch : ((size_t)from->width + 15) / 16 * 16;
-    lay_out_levels(f, p);
-    done(sill_written_end(f->record, SILL_COUNT_RECORD, p->x, p->y, p->pitch, &p->length, SILL_COUNT_END));
-    done(sill_needs(f->record, SILL_COUNT_RECORD, p->x, p->y, p->pitch, f->needs, SILL_COUNT_NEEDS));
+    part *p = f->parts;
+    lay_out(f, p, (uint32_t)o->x, (uint32_t)o->y, o->pitch_given ? (size_t)o->pitch : ((size_t)from->width + 15) / 16 * 16);
+    done(sill_written_end(f->record, SILL_COUNT_RECORD, p->layout, SILL_COUNT_LAYOUT, &p->length, SILL_COUNT_END));
+    done(sill_needs(f->record, SILL_COUNT_RECORD, p->layout, SILL_COUNT_LAYOUT, f->needs, SILL_COUNT_NEEDS));
     f->length = p->length;
 }
 
@@ -116,8 +114,8 @@ static void lay_out_three(frame *f) {
     done_with_parts(sill_frame_parts(f->record, SILL_COUNT_RECORD, told, SILL_COUNT_PARTS), f->record);
     for (size_t k = 0; k < f->count; k++) {
         const size_t *own = told + k * EACH;
-        f->parts[k] = (layout){.x = k > SILL_Y, .y = k > SILL_Y, .start = own[SILL_Y_START], .pitch = own[SILL_Y_PITCH], .length = own[SILL_Y_LENGTH]};
-        lay_out_levels(f, &f->parts[k]);
+        f->parts[k].start = own[SILL_Y_START], f->parts[k].length = own[SILL_Y_LENGTH];
+        lay_out(f, &f->parts[k], k > SILL_Y, k > SILL_Y, own[SILL_Y_PITCH]);
     }
     f->length = told[SILL_FRAME_LENGTH];
     f->needs[SILL_NEED_SPILL] = told[SILL_FRAME_SPILL], f->needs[SILL_NEED_SCRATCH] = told[SILL_FRAME_SCRATCH];
@@ -137,9 +135,8 @@ static frame laid_out(const options *o, const picture *p) {
 /* The sources of three planes have the file's own pitches, which of odd sides aren't those of the frame. */
 static uint32_t built(const frame *f, const picture *p, uint8_t *spill, uint8_t *scratch) {
     size_t of_spill = f->needs[SILL_NEED_SPILL], of_scratch = f->needs[SILL_NEED_SCRATCH];
-    const layout *one = f->parts;
     source y = source_of(p, SILL_Y);
-    if (f->count == 1) return sill_build_plane(f->bytes, f->length, spill, of_spill, scratch, of_scratch, f->record, SILL_COUNT_RECORD, one->x, one->y, one->pitch, y.samples, y.width * y.height, y.width);
+    if (f->count == 1) return sill_build_plane(f->bytes, f->length, spill, of_spill, scratch, of_scratch, f->record, SILL_COUNT_RECORD, f->parts->layout, SILL_COUNT_LAYOUT, y.samples, y.width * y.height, y.width);
     source u = source_of(p, SILL_U), v = source_of(p, SILL_V);
     return sill_build_frame(f->bytes, f->length, spill, of_spill, scratch, of_scratch, f->record, SILL_COUNT_RECORD,
                             y.samples, y.width * y.height, y.width, u.samples, u.width * u.height, u.width, v.samples, v.width * v.height, v.width);
@@ -152,12 +149,8 @@ static void build(frame *f, const picture *p) {
     free(spill), free(scratch);
 }
 
-/* Where a row lies, from the frame's first byte on. */
-static void find_row(const frame *f, size_t k, size_t level, size_t plane, size_t y, size_t place[SILL_COUNT_PLACE]) {
-    const layout *p = &f->parts[k];
-    done(f->count > 1 ? sill_frame_row(f->length, f->record, SILL_COUNT_RECORD, (uint32_t)k, (uint32_t)level, plane, y, place, SILL_COUNT_PLACE)
-                      : sill_row(f->length, f->record, SILL_COUNT_RECORD, p->x, p->y, p->pitch, (uint32_t)level, plane, y, place, SILL_COUNT_PLACE));
-}
+/* A level's numbers of a layout, at their places of level 0. */
+static const size_t *at_level(const part *p, size_t level) { return p->layout + level * SILL_LAYOUT_STEP; }
 
 static size_t planes(const frame *f, size_t level) {
     return level ? 1 : f->record[SILL_AT_FULL] ? (size_t)(f->record[SILL_AT_PEL] * f->record[SILL_AT_PEL]) : 0;
@@ -170,7 +163,7 @@ static void print_settings(const frame *f) {
     const int32_t *r = f->record;
     static const char *const downs[] = {"average", "average", "bilinear", "quadratic", "cubic"}, *const ups[] = {"bilinear", "bicubic"};
     int32_t down = r[SILL_AT_DOWN], up = r[SILL_AT_UP], told[SILL_COUNT_TOLD];
-    size_t levels = f->parts->regions[SILL_REGION_COUNT];
+    size_t levels = f->parts->layout[SILL_LAYOUT_LEVELS];
     int between = r[SILL_AT_PEL] > 1 && levels > 0;
     printf("settings  pel %d, gpu %d, down %d (%s), up %d (%s), full %s, rc %s, lean %s\n", r[SILL_AT_PEL], r[SILL_AT_GPU],
            down, levels < 2 ? "no part in this build" : down >= 0 && down <= 4 ? downs[down] : "none: later levels stay unwritten",
@@ -180,21 +173,21 @@ static void print_settings(const frame *f) {
     printf("read back %" PRIu32 ": %s\n", open, open ? sentence(open) : "the word names this build and no other");
 }
 
-static void print_levels(const frame *f, const layout *p) {
+static void print_levels(const frame *f, const part *p) {
     printf("%5s %7s %11s %7s %7s %11s\n", "level", "planes", "offset", "width", "height", "end");
-    for (size_t k = 0; k < p->regions[SILL_REGION_COUNT]; k++) {
-        size_t at = p->start + p->regions[SILL_REGION_OFFSET + k], height = p->regions[SILL_REGION_HEIGHT + k];
-        printf("%5zu %7zu %11zu %7zu %7zu %11zu\n", k, planes(f, k), at, p->regions[SILL_REGION_WIDTH + k], height, at + planes(f, k) * height * p->pitch);
+    for (size_t k = 0; k < p->layout[SILL_LAYOUT_LEVELS]; k++) {
+        const size_t *level = at_level(p, k), at = p->start + level[SILL_LAYOUT_OFFSET], height = level[SILL_LAYOUT_HEIGHT];
+        printf("%5zu %7zu %11zu %7zu %7zu %11zu\n", k, planes(f, k), at, level[SILL_LAYOUT_WIDTH], height, at + planes(f, k) * height * p->layout[SILL_LAYOUT_PITCH]);
     }
 }
 
 static void print_layout(const frame *f) {
     printf("super     %dx%d\n", f->sizes[SILL_SIZE_WIDTH], f->sizes[SILL_SIZE_HEIGHT]);
-    if (f->count == 1) printf("pitch     %zu\n", f->parts->pitch);
+    if (f->count == 1) printf("pitch     %zu\n", f->parts->layout[SILL_LAYOUT_PITCH]);
     printf("frame     %zu bytes; a build is lent %zu of spill and %zu of scratch\n", f->length, f->needs[SILL_NEED_SPILL], f->needs[SILL_NEED_SCRATCH]);
     for (size_t k = 0; k < f->count; k++) {
-        const layout *p = &f->parts[k];
-        if (f->count > 1) printf("plane %c   %zu bytes from %zu on, pitch %zu\n", "YUV"[k], p->length, p->start, p->pitch);
+        const part *p = &f->parts[k];
+        if (f->count > 1) printf("plane %c   %zu bytes from %zu on, pitch %zu\n", "YUV"[k], p->length, p->start, p->layout[SILL_LAYOUT_PITCH]);
         print_levels(f, p);
     }
 }
@@ -225,7 +218,8 @@ static void write_pgm(output *to, size_t width, size_t height, const uint8_t *by
 /* Rows of three planes have two lengths, so no picture has them as they lie in the frame. */
 static void write_frame(output *to, const frame *f) {
     if (f->count == 1) {
-        write_pgm(to, f->parts->pitch, f->length / f->parts->pitch, f->bytes);
+        size_t pitch = f->parts->layout[SILL_LAYOUT_PITCH];
+        write_pgm(to, pitch, f->length / pitch, f->bytes);
         return;
     }
     write_whole(to, "", f->bytes, f->length);
@@ -238,36 +232,36 @@ typedef struct {
     uint8_t *bytes;
 } sheet;
 
-static void show(const frame *f, size_t part, sheet *s, size_t level, size_t plane, size_t left, size_t top) {
-    size_t place[SILL_COUNT_PLACE];
-    for (size_t y = 0; y < f->parts[part].regions[SILL_REGION_HEIGHT + level]; y++) {
-        find_row(f, part, level, plane, y, place);
-        memcpy(s->bytes + (top + y) * s->width + left, f->bytes + place[SILL_PLACE_OFFSET], place[SILL_PLACE_LENGTH]);
-    }
+/* A part is laid out as a plane alone is, from its own first byte on. */
+static void show(const frame *f, const part *p, sheet *s, size_t level, size_t plane, size_t left, size_t top) {
+    size_t of[SILL_COUNT_PLANE];
+    done(sill_level_plane(p->length, f->record, SILL_COUNT_RECORD, p->layout, SILL_COUNT_LAYOUT, (uint32_t)level, plane, of, SILL_COUNT_PLANE));
+    const uint8_t *row = f->bytes + p->start + of[SILL_PLANE_START];
+    for (size_t y = 0; y < of[SILL_PLANE_HEIGHT]; y++, row += of[SILL_PLANE_PITCH]) memcpy(s->bytes + (top + y) * s->width + left, row, of[SILL_PLANE_WIDTH]);
 }
 
 /* What is drawn of a part, from a place of the sheet on: level 0's planes in pel rows of pel, as their samples lie between the picture's; the smaller levels in a row below. Answers the size, with a gap on every side; where the sheet has no bytes yet, nothing is drawn. */
-static sheet drawn(const frame *f, size_t part, sheet *s, size_t left, size_t top) {
-    const size_t *regions = f->parts[part].regions, levels = regions[SILL_REGION_COUNT];
-    size_t across = planes(f, 0) ? (size_t)f->record[SILL_AT_PEL] : 0, width = regions[SILL_REGION_WIDTH] + GAP, height = regions[SILL_REGION_HEIGHT] + GAP;
+static sheet drawn(const frame *f, const part *p, sheet *s, size_t left, size_t top) {
+    const size_t *first = at_level(p, 0), levels = p->layout[SILL_LAYOUT_LEVELS];
+    size_t across = planes(f, 0) ? (size_t)f->record[SILL_AT_PEL] : 0, width = first[SILL_LAYOUT_WIDTH] + GAP, height = first[SILL_LAYOUT_HEIGHT] + GAP;
     sheet of = {.width = GAP + across * width, .height = GAP + across * height};
     size_t below = of.height, smaller = GAP;
-    if (s->bytes) for (size_t k = 0; k < planes(f, 0); k++) show(f, part, s, 0, k, left + GAP + k % across * width, top + GAP + k / across * height);
+    if (s->bytes) for (size_t k = 0; k < planes(f, 0); k++) show(f, p, s, 0, k, left + GAP + k % across * width, top + GAP + k / across * height);
     for (size_t k = 1; k < levels; k++) {
-        if (s->bytes) show(f, part, s, k, 0, left + smaller, top + below);
-        smaller += regions[SILL_REGION_WIDTH + k] + GAP;
+        if (s->bytes) show(f, p, s, k, 0, left + smaller, top + below);
+        smaller += at_level(p, k)[SILL_LAYOUT_WIDTH] + GAP;
     }
     if (smaller > of.width) of.width = smaller;
-    if (levels > 1) of.height += regions[SILL_REGION_HEIGHT + 1] + GAP;
+    if (levels > 1) of.height += at_level(p, 1)[SILL_LAYOUT_HEIGHT] + GAP;
     return of;
 }
 
 /* Y, or the one plane that there is; below it U and V side by side. */
 static sheet all_drawn(const frame *f, sheet *s) {
-    sheet all = drawn(f, SILL_Y, s, 0, 0);
+    sheet all = drawn(f, &f->parts[SILL_Y], s, 0, 0);
     size_t left = 0, top = all.height;
     for (size_t k = 1; k < f->count; k++) {
-        sheet of = drawn(f, k, s, left, top);
+        sheet of = drawn(f, &f->parts[k], s, left, top);
         left += of.width;
         all.height = top + of.height;
     }

@@ -31,22 +31,24 @@ static void build_alone(uint8_t *to, size_t length, const layout *l, const uint8
 /* Without the Rust a frame of three planes is held to the library's builds of one. */
 static void build_alone(uint8_t *to, size_t length, const layout *l, const uint8_t *from, size_t count, size_t src_pitch) {
     static uint8_t own_spill[16], own_scratch[16 * (32768 + 16)];
-    uint32_t no = sill_build_plane(to, length, own_spill, sizeof own_spill, own_scratch, sizeof own_scratch, l->record, l->count, l->x, l->y, l->pitch, from, count, src_pitch);
+    size_t numbers[LAYOUT];
+    rule_numbers(l, numbers);
+    uint32_t no = sill_build_plane(to, length, own_spill, sizeof own_spill, own_scratch, sizeof own_scratch, l->record, l->count, numbers, LAYOUT, from, count, src_pitch);
     if (no) failed("a plane alone: %" PRIu32, no);
 }
 #endif
 
-const char *const names[CALLS] = {"sill_check", "sill_accepted", "sill_pack_data", "sill_read_word", "sill_prepare_alike", "sill_longhand_write", "sill_longhand_read", "sill_super_sizes", "sill_level_regions", "sill_written_end", "sill_needs", "sill_clear_margins", "sill_row", "sill_build_plane", "sill_frame_parts", "sill_frame_row", "sill_build_frame"};
+const char *const names[CALLS] = {"sill_check", "sill_accepted", "sill_pack_data", "sill_read_word", "sill_prepare_alike", "sill_longhand_write", "sill_longhand_read", "sill_super_sizes", "sill_layout", "sill_layout_change", "sill_written_end", "sill_needs", "sill_clear_margins", "sill_row", "sill_level_plane", "sill_build_plane", "sill_frame_parts", "sill_frame_row", "sill_build_frame"};
 uint64_t met[CALLS][NUMBERS];
 
-static lent record, answer, after, bytes, frame, spill, scratch, src[3];
+static lent record, handed, answer, after, bytes, frame, spill, scratch, src[3];
 static uint8_t *want;
 const uint8_t *source_given[3];
 
 void calls_open(void) {
-    lent *all[] = {&record, &answer, &after, &bytes, &frame, &spill, &scratch, &src[0], &src[1], &src[2]};
-    static const char *const called[] = {"record", "answer", "place after", "bytes", "frame", "spill", "scratch", "source", "source of U", "source of V"};
-    for (int k = 0; k < 10; k++) lent_open(all[k], called[k]);
+    lent *all[] = {&record, &handed, &answer, &after, &bytes, &frame, &spill, &scratch, &src[0], &src[1], &src[2]};
+    static const char *const called[] = {"record", "layout", "answer", "place after", "bytes", "frame", "spill", "scratch", "source", "source of U", "source of V"};
+    for (int k = 0; k < 11; k++) lent_open(all[k], called[k]);
     if (!(want = malloc(MOST))) failed("no memory");
 }
 
@@ -66,7 +68,7 @@ static uint32_t answered(int call, uint32_t got, uint32_t no, const void *value,
     return got;
 }
 
-/* After 1 to 14, before 16 to 24: the lowest number that applies. */
+/* After 1 to 14, before 16 to 32. */
 static uint32_t lowest(uint32_t no, size_t room, size_t need) { return room < need && (!no || no > 15) ? 15 : no; }
 
 static void tell_layout(int call, const layout *l) {
@@ -74,13 +76,31 @@ static void tell_layout(int call, const layout *l) {
     tell("%s: record %d %d %d %d %d %d %d %d %d %d count %zu, shifts %u %u, pitch %zu", names[call], r[0], r[1], r[2], r[3], r[4], r[5], r[6], r[7], r[8], r[9], l->count, l->x, l->y, l->pitch);
 }
 
-/* A call on a layout with an answer, which is lent so many elements. */
+/* The layout handed in, as far as a message has room for it: the whole of what comes first, then what isn't as the rules have it. */
+static void tell_handed(int call, const layout *l) {
+    layout own;
+    size_t again[LAYOUT], told = 0;
+    tell_layout(call, l);
+    tell_more(", layout of %zu: %zu %zu %zu %zu", l->handed_count, l->handed[0], l->handed[1], l->handed[2], l->handed[3]);
+    if (rule_handed(l, &own) != 32) return;
+    if (l->handed_count == LAYOUT && l->handed[1] < 2 && l->handed[2] < 2) rule_numbers(&own, again);
+    else memset(again, 0, sizeof again);
+    for (int k = 4; k < LAYOUT && told < 6; k++) if (l->handed[k] != again[k]) told++, tell_more(", at %d %zu", k, l->handed[k]);
+}
+
+/* A call on a record with an answer, which is lent so many elements; and one on a layout. */
 static void tell_room(int call, const layout *l, size_t room) {
     tell_layout(call, l);
     tell_more(", room %zu", room);
 }
 
+static void tell_handed_room(int call, const layout *l, size_t room) {
+    tell_handed(call, l);
+    tell_more(", room %zu", room);
+}
+
 static const int32_t *lend_record(const layout *l) { return lend_copy(&record, l->record, l->count * sizeof *l->record); }
+static size_t *lend_layout(const layout *l) { return lend_copy(&handed, l->handed, l->handed_count * sizeof *l->handed); }
 
 uint32_t try_check(uint32_t given, const int32_t set[7], int32_t width, int32_t height, size_t room) {
     int32_t r[10];
@@ -179,73 +199,103 @@ uint32_t try_sizes(const layout *l, size_t room) {
     return got;
 }
 
-uint32_t try_regions(const layout *l, size_t room) {
-    size_t regions[40];
-    tell_room(REGIONS, l, room);
+/* The Rust's columns, as rust.rs has them, are the rules' numbers level by level. */
+BESIDE(static void laid_alike(const layout *l, const size_t numbers[LAYOUT]) {
+    size_t theirs[40];
+    rust_regions(l->record, l->x, l->y, l->pitch, theirs);
+    int alike = numbers[0] == theirs[0];
+    for (int k = 0; k < 13; k++) for (int n = 0; n < 3; n++) alike &= numbers[4 + 3 * k + n] == theirs[1 + 13 * n + k];
+    if (!alike) failed("the rules' layout isn't the Rust's");
+})
+
+uint32_t try_make(const layout *l, size_t room) {
+    size_t numbers[LAYOUT];
+    tell_room(MAKE, l, room);
     uint32_t no = rule_layout(l);
-    if (!no) rule_regions(l, regions);
-    BESIDE(if (!no) { size_t theirs[40]; rust_regions(l->record, l->x, l->y, l->pitch, theirs); differs(regions, theirs, sizeof regions, "regions"); })
+    if (!no) rule_numbers(l, numbers);
+    BESIDE(if (!no) laid_alike(l, numbers);)
     const int32_t *r = lend_record(l);
     size_t *to = lend(&answer, room * sizeof *to);
-    uint32_t got = answered(REGIONS, sill_level_regions(r, l->count, l->x, l->y, l->pitch, to, room), lowest(no, room, 40), regions, sizeof regions);
+    uint32_t got = answered(MAKE, sill_layout(r, l->count, l->x, l->y, l->pitch, to, room), lowest(no, room, LAYOUT), numbers, sizeof numbers);
     lent_kept(&record);
+    return got;
+}
+
+uint32_t try_change(const layout *l, uint32_t x, uint32_t y, size_t pitch) {
+    size_t numbers[LAYOUT];
+    tell_handed(CHANGE, l);
+    tell_more(", to shifts %u %u, pitch %zu", x, y, pitch);
+    uint32_t no = rule_change(l, x, y, pitch, numbers);
+    const int32_t *r = lend_record(l);
+    size_t *in_place = lend_layout(l);
+    uint32_t got = numbered(CHANGE, sill_layout_change(r, l->count, in_place, l->handed_count, x, y, pitch), no);
+    lent_kept(&record);
+    if (no) lent_kept(&handed);
+    else lent_is(&handed, numbers);
     return got;
 }
 
 uint32_t try_end(const layout *l, size_t room) {
-    tell_room(END, l, room);
-    uint32_t no = rule_layout(l);
-    size_t end = no ? 0 : rule_end(l);
-    BESIDE(if (!no && rust_end(l->record, l->x, l->y, l->pitch) != end) failed("the rules' end isn't the Rust's");)
+    layout own;
+    tell_handed_room(END, l, room);
+    uint32_t no = rule_handed(l, &own);
+    size_t end = no ? 0 : rule_end(&own);
+    BESIDE(if (!no && rust_end(own.record, own.x, own.y, own.pitch) != end) failed("the rules' end isn't the Rust's");)
     const int32_t *r = lend_record(l);
+    const size_t *by = lend_layout(l);
     size_t *to = lend(&answer, room * sizeof *to);
-    uint32_t got = answered(END, sill_written_end(r, l->count, l->x, l->y, l->pitch, to, room), lowest(no, room, 1), &end, sizeof end);
-    lent_kept(&record);
+    uint32_t got = answered(END, sill_written_end(r, l->count, by, l->handed_count, to, room), lowest(no, room, 1), &end, sizeof end);
+    lent_kept(&record), lent_kept(&handed);
     return got;
 }
 
 uint32_t try_needs(const layout *l, size_t room) {
+    layout own;
     size_t needs[2];
-    tell_room(NEEDS, l, room);
-    uint32_t no = rule_layout(l);
-    if (!no) rule_needs(l, needs);
+    tell_handed_room(NEEDS, l, room);
+    uint32_t no = rule_handed(l, &own);
+    if (!no) rule_needs(&own, needs);
     const int32_t *r = lend_record(l);
+    const size_t *by = lend_layout(l);
     size_t *to = lend(&answer, room * sizeof *to);
-    uint32_t got = answered(NEEDS, sill_needs(r, l->count, l->x, l->y, l->pitch, to, room), lowest(no, room, 2), needs, sizeof needs);
-    lent_kept(&record);
+    uint32_t got = answered(NEEDS, sill_needs(r, l->count, by, l->handed_count, to, room), lowest(no, room, 2), needs, sizeof needs);
+    lent_kept(&record), lent_kept(&handed);
     return got;
 }
 
 /* Only bytes from a width to the pitch of levels after 0 may have changed, and only to 0. */
 static void only_margins(const layout *l) {
-    size_t regions[40], kept = 0;
-    rule_regions(l, regions);
-    for (size_t level = 1; level < regions[0]; level++) {
-        for (size_t y = 0; y < regions[SILL_REGION_HEIGHT + level]; y++) {
-            size_t row = regions[SILL_REGION_OFFSET + level] + y * l->pitch, margin = row + regions[SILL_REGION_WIDTH + level];
-            lent_same(&frame, kept, margin), lent_cleared(&frame, margin, row + l->pitch);
-            kept = row + l->pitch;
+    size_t kept = 0;
+    for (size_t level = 1; level < l->handed[SILL_LAYOUT_LEVELS]; level++) {
+        const size_t *of = l->handed + SILL_LAYOUT_STEP * level, pitch = l->handed[SILL_LAYOUT_PITCH];
+        for (size_t y = 0; y < of[SILL_LAYOUT_HEIGHT]; y++) {
+            size_t row = of[SILL_LAYOUT_OFFSET] + y * pitch, margin = row + of[SILL_LAYOUT_WIDTH];
+            lent_same(&frame, kept, margin), lent_cleared(&frame, margin, row + pitch);
+            kept = row + pitch;
         }
     }
     lent_same(&frame, kept, frame.bytes), lent_guarded(&frame);
 }
 
 uint32_t try_clear(const layout *l, size_t length) {
-    tell_layout(CLEAR, l);
+    tell_handed(CLEAR, l);
     tell_more(", frame %zu", length);
-    uint32_t no = rule_frame(l, length);
+    uint32_t no = rule_clear(l, length);
     const int32_t *r = lend_record(l);
+    const size_t *by = lend_layout(l);
     uint8_t *to = lend(&frame, length);
-    uint32_t got = numbered(CLEAR, sill_clear_margins(to, length, r, l->count, l->x, l->y, l->pitch), no);
-    lent_kept(&record);
+    uint32_t got = numbered(CLEAR, sill_clear_margins(to, length, r, l->count, by, l->handed_count), no);
+    lent_kept(&record), lent_kept(&handed);
     if (no) {
         lent_kept(&frame);
         return got;
     }
     only_margins(l);
     BESIDE(
+        layout own;
+        rule_handed(l, &own);
         memcpy(want, frame.before, length);
-        rust_clear(want, length, l->record, l->x, l->y, l->pitch);
+        rust_clear(want, length, own.record, own.x, own.y, own.pitch);
         lent_is(&frame, want);
     )
     return got;
@@ -253,13 +303,27 @@ uint32_t try_clear(const layout *l, size_t length) {
 
 uint32_t try_row(const layout *l, size_t length, uint32_t level, size_t plane, size_t y, size_t room) {
     size_t place[2];
-    tell_room(ROW, l, room);
+    tell_handed_room(ROW, l, room);
     tell_more(", frame %zu, level %u, plane %zu, y %zu", length, level, plane, y);
     uint32_t no = rule_row(l, length, level, plane, y, place);
     const int32_t *r = lend_record(l);
+    const size_t *by = lend_layout(l);
     size_t *to = lend(&answer, room * sizeof *to);
-    uint32_t got = answered(ROW, sill_row(length, r, l->count, l->x, l->y, l->pitch, level, plane, y, to, room), lowest(no, room, 2), place, sizeof place);
-    lent_kept(&record);
+    uint32_t got = answered(ROW, sill_row(length, r, l->count, by, l->handed_count, level, plane, y, to, room), lowest(no, room, 2), place, sizeof place);
+    lent_kept(&record), lent_kept(&handed);
+    return got;
+}
+
+uint32_t try_level_plane(const layout *l, size_t length, uint32_t level, size_t plane, size_t room) {
+    size_t place[4];
+    tell_handed_room(LEVEL_PLANE, l, room);
+    tell_more(", frame %zu, level %u, plane %zu", length, level, plane);
+    uint32_t no = rule_level_plane(l, length, level, plane, place);
+    const int32_t *r = lend_record(l);
+    const size_t *by = lend_layout(l);
+    size_t *to = lend(&answer, room * sizeof *to);
+    uint32_t got = answered(LEVEL_PLANE, sill_level_plane(length, r, l->count, by, l->handed_count, level, plane, to, room), lowest(no, room, 4), place, sizeof place);
+    lent_kept(&record), lent_kept(&handed);
     return got;
 }
 
@@ -274,17 +338,20 @@ static void left(uint32_t no, int sources) {
 }
 
 uint32_t try_build(const layout *l, const lengths *n) {
-    tell_layout(BUILD, l);
+    tell_handed(BUILD, l);
     tell_more(", frame %zu, spill %zu, scratch %zu, source %zu of pitch %zu", n->frame, n->spill, n->scratch, n->src, n->src_pitch);
     uint32_t no = rule_build(l, n);
     const int32_t *r = lend_record(l);
+    const size_t *by = lend_layout(l);
     uint8_t *f = lend(&frame, n->frame), *sp = lend(&spill, n->spill), *sc = lend(&scratch, n->scratch);
     const uint8_t *from = lend_source(0, n->src);
-    uint32_t got = numbered(BUILD, sill_build_plane(f, n->frame, sp, n->spill, sc, n->scratch, r, l->count, l->x, l->y, l->pitch, from, n->src, n->src_pitch), no);
-    left(no, 1);
+    uint32_t got = numbered(BUILD, sill_build_plane(f, n->frame, sp, n->spill, sc, n->scratch, r, l->count, by, l->handed_count, from, n->src, n->src_pitch), no);
+    left(no, 1), lent_kept(&handed);
     BESIDE(if (!no) {
+        layout own;
+        rule_handed(l, &own);
         memcpy(want, frame.before, n->frame);
-        build_alone(want, n->frame, l, src[0].before, n->src, n->src_pitch);
+        build_alone(want, n->frame, &own, src[0].before, n->src, n->src_pitch);
         lent_is(&frame, want);
     })
     return got;

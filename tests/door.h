@@ -5,13 +5,14 @@
 #include <stddef.h>
 #include <stdint.h>
 
-/* A layout as a call takes it; a record may be handed in with another count than 10. */
-enum { RECORD_MOST = 12 };
+/* A record, the shifts and the pitch that a layout is made by, and the layout that is handed in: the one of these after `keep`, or any
+   other. A record may be handed in with another count than 10, a layout with another than LAYOUT. */
+enum { RECORD_MOST = 12, LAYOUT = 43, LAYOUT_MOST = 46 };
 typedef struct {
     int32_t record[RECORD_MOST];
     size_t count;
     uint32_t x, y;
-    size_t pitch;
+    size_t pitch, handed[LAYOUT_MOST], handed_count;
 } layout;
 
 /* What a build is lent beside its layout. */
@@ -24,7 +25,7 @@ typedef struct {
     size_t frame, spill, scratch, src[3], src_pitch[3];
 } frame_lengths;
 
-/* rules.c: document 01's table and sizes, and document 02's longhand record and three planes. A number, or 0 and the answer. */
+/* rules.c: document 01's table and sizes, and document 02's longhand record, three planes and layout. A number, or 0 and the answer. */
 uint32_t rule_check(uint32_t given, const int32_t set[7], int32_t width, int32_t height, int32_t record[10]);
 uint32_t rule_record(const int32_t *record, size_t count);
 uint64_t rule_word(const int32_t record[10]);
@@ -33,13 +34,19 @@ uint32_t rule_alike(uint64_t a, uint64_t b);
 uint32_t rule_longhand_write(const int32_t *record, size_t count, uint8_t bytes[21]);
 uint32_t rule_longhand_read(const uint8_t *bytes, size_t count, int32_t record[10], size_t *after);
 void rule_sizes(const int32_t record[10], int32_t sizes[2]);
+/* By the shifts and the pitch: 6, 7 and 8, then what they give. `keep` hands it in; of bad ones, numbers that say them. */
 uint32_t rule_layout(const layout *l);
-void rule_regions(const layout *l, size_t regions[40]);
+void rule_numbers(const layout *l, size_t numbers[LAYOUT]);
 size_t rule_end(const layout *l);
 void rule_needs(const layout *l, size_t needs[2]);
-uint32_t rule_frame(const layout *l, size_t frame);
-uint32_t rule_row(const layout *l, size_t frame, uint32_t level, size_t plane, size_t y, size_t place[2]);
 size_t rule_source(const layout *l, size_t src_pitch);
+void keep(layout *l);
+/* By the layout that is handed in: 6 and 32, or in `own` its shifts and pitch; then the calls that take it. */
+uint32_t rule_handed(const layout *l, layout *own);
+uint32_t rule_change(const layout *l, uint32_t x, uint32_t y, size_t pitch, size_t numbers[LAYOUT]);
+uint32_t rule_clear(const layout *l, size_t frame);
+uint32_t rule_row(const layout *l, size_t frame, uint32_t level, size_t plane, size_t y, size_t place[2]);
+uint32_t rule_level_plane(const layout *l, size_t frame, uint32_t level, size_t plane, size_t place[4]);
 uint32_t rule_build(const layout *l, const lengths *n);
 /* Of three planes: the layout of one, by the record alone; 6, 23 and 24; what a row and a build give. */
 layout rule_part(const layout *of, int part);
@@ -77,8 +84,8 @@ void tell_more(const char *what, ...) __attribute__((format(printf, 1, 2)));
 void watch(void);
 
 /* calls.c: one call each, held to the rules and the Rust. The number that the call gave, or of two words whether they are alike. */
-enum { CHECK, ACCEPTED, PACK, READ, ALIKE, LONGHAND_WRITE, LONGHAND_READ, SIZES, REGIONS, END, NEEDS, CLEAR, ROW, BUILD, PARTS, FRAME_ROW, BUILD_FRAME, CALLS };
-enum { NUMBERS = 25 };
+enum { CHECK, ACCEPTED, PACK, READ, ALIKE, LONGHAND_WRITE, LONGHAND_READ, SIZES, MAKE, CHANGE, END, NEEDS, CLEAR, ROW, LEVEL_PLANE, BUILD, PARTS, FRAME_ROW, BUILD_FRAME, CALLS };
+enum { NUMBERS = 33 };
 extern const char *const names[CALLS];
 extern uint64_t met[CALLS][NUMBERS];
 void calls_open(void);
@@ -90,11 +97,13 @@ uint32_t try_alike(uint64_t a, uint64_t b);
 uint32_t try_longhand_write(const layout *l, size_t room);
 uint32_t try_longhand_read(const uint8_t *bytes, size_t count, size_t record_room, size_t after_room);
 uint32_t try_sizes(const layout *l, size_t room);
-uint32_t try_regions(const layout *l, size_t room);
+uint32_t try_make(const layout *l, size_t room);
+uint32_t try_change(const layout *l, uint32_t x, uint32_t y, size_t pitch);
 uint32_t try_end(const layout *l, size_t room);
 uint32_t try_needs(const layout *l, size_t room);
 uint32_t try_clear(const layout *l, size_t frame);
 uint32_t try_row(const layout *l, size_t frame, uint32_t level, size_t plane, size_t y, size_t room);
+uint32_t try_level_plane(const layout *l, size_t frame, uint32_t level, size_t plane, size_t room);
 uint32_t try_build(const layout *l, const lengths *n);
 uint32_t try_parts(const layout *l, size_t room);
 uint32_t try_frame_row(const layout *l, size_t frame, uint32_t of, uint32_t level, size_t plane, size_t y, size_t room);
@@ -103,10 +112,11 @@ uint32_t try_build_frame(const layout *l, const frame_lengths *n);
 extern const uint8_t *source_given[3];
 const uint8_t *built(void);
 
-/* fixed.c, longhand.c, planes.c, random.c */
+/* fixed.c, layouts.c, longhand.c, planes.c, random.c */
 void is(uint32_t got, uint32_t number);
 layout laid(int32_t pel, int32_t gpu, int32_t up, int32_t full, int32_t width, int32_t height, size_t pitch);
 void fixed_cases(void);
+void layout_cases(void);
 void longhand_cases(void);
 void plane_cases(void);
 void vast_planes(uint8_t *to, const void *held, size_t over);

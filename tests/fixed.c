@@ -1,5 +1,5 @@
 /* Cases whose numbers and answers are told here by hand, good and bad ones of each call; most values are document 01's own.
-   In order: settings and records; words; sizes and layouts; rows; frames and bytes; vast slices; all of them, with those of longhand.c and planes.c. */
+   In order: settings and records; words; sizes and layouts; rows; frames and bytes; vast slices; all of them, with those of layouts.c, longhand.c and planes.c. */
 #include <stdio.h>
 #include <string.h>
 #include <sys/mman.h>
@@ -18,6 +18,7 @@ layout laid(int32_t pel, int32_t gpu, int32_t up, int32_t full, int32_t width, i
     layout l = {.count = 10, .pitch = pitch};
     int32_t set[7] = {pel, gpu, 4, up, full, 0, 0};
     if (rule_check(ALL, set, width, height, l.record)) failed("fixed case: no record");
+    keep(&l);
     return l;
 }
 
@@ -64,7 +65,8 @@ static void refused(const layout *l) {
     frame_lengths no_planes = {0};
     is(try_accepted(l), 6), is(try_pack(l, 0), 6), is(try_pack(l, 1), 6), is(try_sizes(l, 0), 6), is(try_sizes(l, 2), 6);
     is(try_longhand_write(l, 0), 6), is(try_longhand_write(l, 20), 6), is(try_longhand_write(l, 21), 6);
-    is(try_regions(l, 0), 6), is(try_regions(l, 40), 6), is(try_end(l, 1), 6), is(try_needs(l, 2), 6), is(try_needs(l, 0), 6);
+    is(try_make(l, 0), 6), is(try_make(l, 43), 6), is(try_change(l, l->x, l->y, l->pitch), 6), is(try_change(l, 2, 0, 0), 6);
+    is(try_end(l, 1), 6), is(try_needs(l, 2), 6), is(try_needs(l, 0), 6), is(try_level_plane(l, 0, 0, 0, 0), 6), is(try_level_plane(l, SIZE_MAX, 0, 0, 4), 6);
     is(try_clear(l, 0), 6), is(try_clear(l, 100), 6), is(try_row(l, 0, 0, 0, 0, 0), 6), is(try_row(l, SIZE_MAX, 0, 0, 0, 2), 6), is(try_build(l, &none), 6);
     is(try_parts(l, 0), 6), is(try_parts(l, 12), 6), is(try_frame_row(l, 0, 0, 0, 0, 0, 0), 6), is(try_frame_row(l, SIZE_MAX, 0, 0, 0, 0, 2), 6), is(try_build_frame(l, &no_planes), 6);
 }
@@ -89,6 +91,7 @@ static void bad_records(void) {
     }
     layout zeros = {.count = 10, .pitch = 1}, refined_off_gpu_0 = laid(2, 1, 0, 1, 64, 48, 64);
     refined_off_gpu_0.record[SILL_AT_UP] = 2;
+    keep(&zeros);
     refused(&zeros), refused(&refined_off_gpu_0);
 }
 
@@ -130,11 +133,16 @@ static void sizes(void) {
     if (of[0] != 32 || of[1] != 48) failed("fixed case: another super size of 64x48, not full");
 }
 
-/* Every call that takes a layout refuses these shifts or this pitch with the number, whatever higher one applies too. */
-static void layout_refused(const layout *l, uint32_t number) {
+/* Making and changing refuse these shifts or this pitch with the number, whatever higher one applies too; the calls that take a layout
+   refuse one that says them. */
+static void layout_refused(layout l, uint32_t number) {
     lengths none = {0};
-    is(try_regions(l, 0), number), is(try_regions(l, 40), number), is(try_end(l, 0), number), is(try_needs(l, 2), number);
-    is(try_clear(l, 0), number), is(try_row(l, 0, 99, 0, 0, 0), number), is(try_build(l, &none), number);
+    layout fine = laid(2, 1, 0, 1, 64, 48, 64);
+    keep(&l);
+    is(try_make(&l, 0), number), is(try_make(&l, 43), number), is(try_change(&fine, l.x, l.y, l.pitch), number), is(try_change(&l, 0, 0, 64), 32);
+    is(try_end(&l, 0), 15), is(try_end(&l, 1), 32), is(try_needs(&l, 1), 15), is(try_needs(&l, 2), 32), is(try_clear(&l, 0), 32);
+    is(try_row(&l, 0, 99, 0, 0, 0), 15), is(try_row(&l, 0, 99, 0, 0, 2), 32), is(try_level_plane(&l, 0, 99, 0, 3), 15), is(try_level_plane(&l, 0, 99, 0, 4), 32);
+    is(try_build(&l, &none), 32);
 }
 
 static void layouts(void) {
@@ -143,18 +151,18 @@ static void layouts(void) {
     for (size_t k = 0; k < sizeof shifts / sizeof *shifts; k++) {
         layout x = laid(2, 1, 0, 1, 64, 48, 64), y = x;
         x.x = shifts[k], y.y = shifts[k], y.pitch = 0;
-        layout_refused(&x, 7), layout_refused(&y, 7);
+        layout_refused(x, 7), layout_refused(y, 7);
     }
     for (size_t k = 0; k < sizeof pitches / sizeof *pitches; k++) {
-        layout l = laid(2, 1, 0, 1, 64, 48, pitches[k]);
-        layout_refused(&l, 8);
+        layout_refused(laid(2, 1, 0, 1, 64, 48, pitches[k]), 8);
     }
     layout l = laid(2, 1, 0, 1, 64, 48, 64), flat = laid(1, 1, 0, 0, 3, 3, 1);
-    size_t regions[40], end, needs[2];
-    is(try_regions(&l, 39), 15), is(try_regions(&l, 40), 0), is(try_regions(&l, 41), 0), is(try_regions(&flat, 40), 0);
+    static const size_t by_hand[43] = {4, 0, 0, 64, 0, 64, 48, 12288, 32, 24, 13824, 16, 12, 14592, 8, 6};
+    size_t numbers[43], end, needs[2];
+    for (size_t room = 0; room <= 45; room++) is(try_make(&l, room), room < 43 ? 15 : 0), is(try_make(&flat, room), room < 43 ? 15 : 0);
     is(try_end(&l, 0), 15), is(try_end(&l, 1), 0), is(try_end(&flat, 2), 0), is(try_needs(&l, 0), 15), is(try_needs(&l, 1), 15), is(try_needs(&l, 3), 0);
-    is(sill_level_regions(l.record, 10, 0, 0, 64, regions, 40), 0), is(sill_written_end(l.record, 10, 0, 0, 64, &end, 1), 0), is(sill_needs(l.record, 10, 0, 0, 64, needs, 2), 0);
-    if (regions[0] != 4 || regions[2] != 12288 || end != 14976 || needs[0] != 16 || needs[1] != 1280) failed("fixed case: another layout of 64x48");
+    is(sill_layout(l.record, 10, 0, 0, 64, numbers, 43), 0), is(sill_written_end(l.record, 10, numbers, 43, &end, 1), 0), is(sill_needs(l.record, 10, numbers, 43, needs, 2), 0);
+    if (memcmp(numbers, by_hand, sizeof numbers) || end != 14976 || needs[0] != 16 || needs[1] != 1280) failed("fixed case: another layout of 64x48");
 }
 
 static void rows(void) {
@@ -164,14 +172,14 @@ static void rows(void) {
     is(try_row(&l, 14976, 0, 3, 47, 2), 0), is(try_row(&l, SIZE_MAX, 3, 0, 5, 4), 0);
     is(try_row(&l, 14976, 0, 4, 0, 2), 19), is(try_row(&l, 14976, 0, 0, 48, 2), 19), is(try_row(&l, 14976, 4, 0, 0, 2), 19), is(try_row(&l, 14976, 1, 1, 0, 2), 19);
     is(try_row(&l, 14976, UINT32_MAX, far, SIZE_MAX, 2), 19), is(try_row(&l, far, 0, far, 0, 2), 19), is(try_row(&l, far, 0, 0, far + 1, 2), 19), is(try_row(&half, far, 0, 0, 0, 2), 19);
-    is(sill_row(14976, l.record, 10, 0, 0, 64, 1, 0, 2, place, 2), 0);
+    is(sill_row(14976, l.record, 10, l.handed, 43, 1, 0, 2, place, 2), 0);
     if (place[0] != 12288 + 2 * 64 || place[1] != 32) failed("fixed case: another row of 64x48");
     /* Pel 4: 16 planes of 48 rows, then 42 rows of the later levels. */
     layout quarter = laid(4, 1, 0, 1, 64, 48, 64);
     size_t end = 16 * 48 * 64 + 42 * 64;
     is(try_row(&quarter, end - 1, 0, 15, 47, 2), 11), is(try_row(&quarter, end, 0, 15, 47, 2), 0);
     is(try_row(&quarter, end, 0, 16, 0, 2), 19), is(try_row(&quarter, end, 0, 15, 48, 2), 19);
-    is(sill_row(end, quarter.record, 10, 0, 0, 64, 0, 15, 47, place, 2), 0);
+    is(sill_row(end, quarter.record, 10, quarter.handed, 43, 0, 15, 47, place, 2), 0);
     if (place[0] != 16 * 48 * 64 - 64 || place[1] != 64) failed("fixed case: another last row of plane 15");
 }
 
@@ -179,13 +187,17 @@ static void rows(void) {
 static void largest(void) {
     layout l = laid(4, 1, 0, 1, 16384, 16384, 32768);
     const size_t later = (size_t)1 << 33, by_hand = later + (size_t)16380 * 32768;
-    size_t regions[40], end, needs[2], place[2];
-    is(try_regions(&l, 40), 0), is(try_end(&l, 1), 0), is(try_needs(&l, 2), 0);
+    size_t numbers[43], end, needs[2], place[2], plane[4];
+    is(try_make(&l, 43), 0), is(try_change(&l, 1, 1, 8192), 0), is(try_end(&l, 1), 0), is(try_needs(&l, 2), 0);
     is(try_row(&l, SIZE_MAX, 0, 15, 16383, 2), 0), is(try_row(&l, SIZE_MAX, 12, 0, 3, 2), 0), is(try_row(&l, by_hand, 12, 0, 3, 2), 0);
     is(try_row(&l, by_hand - 1, 0, 0, 0, 2), 11), is(try_row(&l, SIZE_MAX, 12, 0, 4, 2), 19), is(try_row(&l, SIZE_MAX, 13, 0, 0, 2), 19);
-    is(sill_level_regions(l.record, 10, 0, 0, 32768, regions, 40), 0), is(sill_written_end(l.record, 10, 0, 0, 32768, &end, 1), 0);
-    is(sill_needs(l.record, 10, 0, 0, 32768, needs, 2), 0), is(sill_row(SIZE_MAX, l.record, 10, 0, 0, 32768, 12, 0, 3, place, 2), 0);
-    if (regions[0] != 13 || regions[2] != later || regions[13] != by_hand - 4 * 32768 || regions[26] != 4 || regions[39] != 4) failed("fixed case: other levels of 16384x16384");
+    is(try_level_plane(&l, by_hand, 0, 15, 4), 0), is(try_level_plane(&l, by_hand, 12, 0, 4), 0), is(try_level_plane(&l, by_hand - 1, 12, 0, 4), 11);
+    is(try_level_plane(&l, SIZE_MAX, 13, 0, 4), 19), is(try_level_plane(&l, SIZE_MAX, 0, 16, 4), 19), is(try_level_plane(&l, SIZE_MAX, 12, 1, 4), 19);
+    is(sill_layout(l.record, 10, 0, 0, 32768, numbers, 43), 0), is(sill_written_end(l.record, 10, numbers, 43, &end, 1), 0);
+    is(sill_needs(l.record, 10, numbers, 43, needs, 2), 0), is(sill_row(SIZE_MAX, l.record, 10, numbers, 43, 12, 0, 3, place, 2), 0);
+    is(sill_level_plane(by_hand, l.record, 10, numbers, 43, 0, 15, plane, 4), 0);
+    if (numbers[0] != 13 || numbers[7] != later || numbers[40] != by_hand - 4 * 32768 || numbers[41] != 4 || numbers[42] != 4) failed("fixed case: other levels of 16384x16384");
+    if (plane[0] != (size_t)15 << 29 || plane[1] != 16384 || plane[2] != 16384 || plane[3] != 32768) failed("fixed case: another plane 15 of 16384x16384");
     if (end != by_hand || end != 9126674432 || needs[1] != 16 * 32784) failed("fixed case: another layout of 16384x16384");
     if (place[0] != by_hand - 32768 || place[1] != 4) failed("fixed case: another last row of 16384x16384");
 }
@@ -208,7 +220,7 @@ static void frames(void) {
     /* Nothing is stored of a picture without levels: frame and source may be missing where no byte is needed. */
     lengths small = {0, 16, 304, 9, 3}, empty = {0, 16, 272, 0, 1};
     layout thin = laid(1, 1, 0, 1, 1, 1, 1);
-    thin.x = 1;
+    thin.x = 1, keep(&thin);
     /* Some of these with NULL, some with other pointers that lead nowhere. */
     for (int k = 0; k < 16; k++) is(try_build(&none, &small), 0), is(try_build(&thin, &empty), 0), is(try_clear(&none, 0), 0);
 }
@@ -235,13 +247,13 @@ static void front_is(const void *to, const void *value, size_t bytes, const char
 static void vast_answers(const layout *l, uint8_t *to, size_t count) {
     int32_t sizes[2], told[12];
     uint8_t longhand[21];
-    size_t regions[40], end = rule_end(l), needs[2], place[2], after = 0;
+    size_t kept[43], end = rule_end(l), needs[2], place[2], plane[4], after = 0;
     uint64_t word = rule_word(l->record);
     rule_longhand_write(l->record, 10, longhand);
-    rule_sizes(l->record, sizes), rule_regions(l, regions), rule_needs(l, needs), rule_read(word, told), rule_row(l, end, 1, 0, 2, place);
+    rule_sizes(l->record, sizes), rule_numbers(l, kept), rule_needs(l, needs), rule_read(word, told), rule_row(l, end, 1, 0, 2, place), rule_level_plane(l, end, 0, 3, plane);
     const int32_t *r = l->record;
     int32_t *numbers = (int32_t *)to;
-    size_t *places = (size_t *)to, p = l->pitch;
+    size_t *places = (size_t *)to;
     is(sill_check(0, 0, 0, 0, 0, 0, 0, 0, 64, 48, numbers, count), 0), front_is(to, r, 10 * sizeof *r, "record");
     is(sill_pack_data(r, 10, (uint64_t *)to, count), 0), front_is(to, &word, sizeof word, "word");
     is(sill_read_word(word, numbers, count), 0), front_is(to, told, sizeof told, "description");
@@ -249,10 +261,24 @@ static void vast_answers(const layout *l, uint8_t *to, size_t count) {
     is(sill_longhand_read(longhand, 21, numbers, count, &after, 1), 0), front_is(to, r, 10 * sizeof *r, "record"), is((uint32_t)after, 21);
     is(sill_longhand_read(longhand, 21, told, 10, places, count), 0), front_is(to, &after, sizeof after, "place");
     is(sill_super_sizes(r, 10, numbers, count), 0), front_is(to, sizes, sizeof sizes, "super size");
-    is(sill_level_regions(r, 10, 0, 0, p, places, count), 0), front_is(to, regions, sizeof regions, "layout");
-    is(sill_written_end(r, 10, 0, 0, p, places, count), 0), front_is(to, &end, sizeof end, "end");
-    is(sill_needs(r, 10, 0, 0, p, places, count), 0), front_is(to, needs, sizeof needs, "need");
-    is(sill_row(end, r, 10, 0, 0, p, 1, 0, 2, places, count), 0), front_is(to, place, sizeof place, "row");
+    is(sill_layout(r, 10, 0, 0, l->pitch, places, count), 0), front_is(to, kept, sizeof kept, "layout");
+    is(sill_written_end(r, 10, kept, 43, places, count), 0), front_is(to, &end, sizeof end, "end");
+    is(sill_needs(r, 10, kept, 43, places, count), 0), front_is(to, needs, sizeof needs, "need");
+    is(sill_row(end, r, 10, kept, 43, 1, 0, 2, places, count), 0), front_is(to, place, sizeof place, "row");
+    is(sill_level_plane(end, r, 10, kept, 43, 0, 3, places, count), 0), front_is(to, plane, sizeof plane, "plane");
+}
+
+/* A layout whose count is 43 in its low 32 bits alone isn't one, though a good one stands at its front. `held` can't be written. */
+static void vast_layouts(const layout *l, size_t *at, const void *held, size_t count) {
+    const int32_t *r = l->record;
+    uint8_t *kept = (uint8_t *)held;
+    size_t *to = (size_t *)held;
+    memcpy(at, l->handed, 43 * sizeof *at);
+    is(sill_written_end(r, 10, at, count, to, 1), 32), is(sill_needs(r, 10, at, count, to, 2), 32), is(sill_clear_margins(kept, count, r, 10, at, count), 32);
+    is(sill_row(count, r, 10, at, count, 0, 0, 0, to, 2), 32), is(sill_level_plane(count, r, 10, at, count, 0, 0, to, 4), 32);
+    is(sill_build_plane(kept, count, kept + count, 16, kept + count + 16, 1280, r, 10, at, count, kept, count, 64), 32);
+    is(sill_layout_change(r, 10, at, count, 0, 0, 80), 32), front_is(at, l->handed, 43 * sizeof *at, "layout");
+    memset(at, 0, 43 * sizeof *at);
 }
 
 /* A longhand record of the greatest length ends 3 bytes past 2^32, of which only length and kind are looked at. */
@@ -286,19 +312,21 @@ static void vast(void) {
     const int32_t *record = (const int32_t *)to;
     is(sill_accepted(record, over + 10), 6), is(sill_accepted(record, 10), 0);
     is(sill_check(0, 0, 0, 0, 0, 0, 0, 0, 0, 0, held, over), 5), is(sill_pack_data(record, over + 10, (uint64_t *)held, over), 6);
-    is(sill_row(over, record, 10, 0, 0, 64, 4, 0, 0, (size_t *)held, over), 19), is(sill_read_word(0, held, over + 11), 20);
-    is(sill_clear_margins((uint8_t *)held, over, record, over + 10, 0, 0, 64), 6);
-    is(sill_build_plane(frame, 14975, (uint8_t *)held, over, (uint8_t *)held + over, over, l.record, 10, 0, 0, 64, src, 3072, 64), 11);
-    is(sill_build_plane((uint8_t *)held, over, spill, 15, scratch, 1280, l.record, 10, 0, 0, 64, src, 3072, 64), 12);
+    is(sill_row(over, record, 10, l.handed, 43, 4, 0, 0, (size_t *)held, over), 19), is(sill_level_plane(over, record, 10, l.handed, 43, 4, 0, (size_t *)held, over), 19), is(sill_read_word(0, held, over + 11), 20);
+    is(sill_clear_margins((uint8_t *)held, over, record, over + 10, l.handed, 43), 6), is(sill_layout(record, over + 10, 0, 0, 64, (size_t *)held, over), 6);
+    is(sill_layout_change(record, over + 10, (size_t *)held, over + 43, 0, 0, 64), 6), is(sill_layout(record, 10, 0, 0, over + 64, (size_t *)held, over), 8);
+    is(sill_build_plane(frame, 14975, (uint8_t *)held, over, (uint8_t *)held + over, over, l.record, 10, l.handed, 43, src, 3072, 64), 11);
+    is(sill_build_plane((uint8_t *)held, over, spill, 15, scratch, 1280, l.record, 10, l.handed, 43, src, 3072, 64), 12);
     for (int k = 0; k < 3072; k++) src[k] = (uint8_t)next();
     memset(to, 0, 4096);
     vast_answers(&l, to, over);
+    vast_layouts(&l, (size_t *)to, held, over + 43);
     memset(to, 0, 4096);
     vast_longhand(to, held, over);
-    is(sill_build_plane(frame, 14976, spill, 16, scratch, 1280, l.record, 10, 0, 0, 64, src, 3072, 64), 0);
+    is(sill_build_plane(frame, 14976, spill, 16, scratch, 1280, l.record, 10, l.handed, 43, src, 3072, 64), 0);
     uint8_t *long_src = to + over + 4096;
     memcpy(long_src, src, 3072);
-    is(sill_build_plane(to, over + 5, spill, 16, scratch, 1280, l.record, 10, 0, 0, 64, long_src, over + 7, 64), 0);
+    is(sill_build_plane(to, over + 5, spill, 16, scratch, 1280, l.record, 10, l.handed, 43, long_src, over + 7, 64), 0);
     if (memcmp(to, frame, 14976)) failed("another frame");
     vast_planes(to, held, over);
     munmap(to, room), munmap(held, room);
@@ -306,7 +334,7 @@ static void vast(void) {
 
 void fixed_cases(void) {
     for (where = AT_START; where < SPOTS; where++) {
-        checks(), records(), bad_records(), words(), alike(), sizes(), layouts(), rows(), largest(), frames(), bytes(), plane_cases();
+        checks(), records(), bad_records(), words(), alike(), sizes(), layouts(), rows(), largest(), frames(), bytes(), layout_cases(), plane_cases();
     }
     longhand_cases();
     where = AMIDST;

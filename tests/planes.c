@@ -208,14 +208,14 @@ static void parts(void) {
 /* Every part, level, plane and row, and one past each. */
 static void rows(int32_t pel, int32_t width, int32_t height) {
     layout l = laid(pel, 1, 0, 1, width, height, 0);
-    size_t of_frame[12], regions[40];
+    size_t of_frame[12], numbers[LAYOUT];
     rule_parts(&l, of_frame);
     for (uint32_t part = 0; part <= 3; part++) {
         layout one = rule_part(&l, part < 3 ? (int)part : 0);
-        rule_regions(&one, regions);
-        for (uint32_t level = 0; level <= regions[SILL_REGION_COUNT]; level++) {
-            int stored = part < 3 && level < regions[SILL_REGION_COUNT];
-            size_t planes = level ? 1 : (size_t)(pel * pel), high = stored ? regions[SILL_REGION_HEIGHT + level] : 0;
+        rule_numbers(&one, numbers);
+        for (uint32_t level = 0; level <= numbers[SILL_LAYOUT_LEVELS]; level++) {
+            int stored = part < 3 && level < numbers[SILL_LAYOUT_LEVELS];
+            size_t planes = level ? 1 : (size_t)(pel * pel), high = stored ? numbers[SILL_LAYOUT_HEIGHT + SILL_LAYOUT_STEP * level] : 0;
             for (size_t plane = 0; plane <= planes; plane++) for (size_t y = 0; y <= high; y++) {
                 is(try_frame_row(&l, of_frame[SILL_FRAME_LENGTH], part, level, plane, y, 2), stored && plane < planes && y < high ? 0 : 19);
             }

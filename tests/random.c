@@ -53,6 +53,7 @@ static layout fine(void) {
     int64_t more = (int64_t)below(100);
     l.pitch = least + (size_t)PICK(0, 0, 0, 1, 2, 5, 16, more, (int64_t)(15 & -least));
     if (below(64) == 0) l.pitch = 32768 - below(3);
+    keep(&l);
     return l;
 }
 
@@ -68,10 +69,31 @@ static void spoil_layout(layout *l) {
     }
 }
 
+/* Another layout than the one of the shifts and the pitch: one number changed, most where a level has one; another count; the layout of
+   another picture; or one that says other shifts or another pitch, which of few levels is a good one. */
+static void spoil_handed(layout *l) {
+    uint64_t at = below(below(2) ? 4 + 3 * (l->handed[0] % 14) : LAYOUT);
+    switch (below(6)) {
+    case 0: l->handed_count = (size_t)PICK(0, 1, 40, 42, 44, LAYOUT_MOST); break;
+    case 1: l->handed[at] = wild(); break;
+    case 2: l->handed[at] += (size_t)PICK(1, -1, 2, 16, (int64_t)1 << 32, INT64_MIN); break;
+    case 3: {
+        layout other = fine();
+        for (int k = 0; k < LAYOUT; k++) l->handed[k] = other.handed[k];
+        break;
+    }
+    case 4: l->handed[1 + below(2)] ^= 1; break;
+    default: l->handed[3] += 1 + below(40);
+    }
+}
+
+/* The layout handed in is mostly that of the shifts and the pitch, as far as these are good. */
 static layout some(void) {
     layout l = fine();
     if (below(3) == 0) spoil_layout(&l);
     if (below(9) == 0) spoil_layout(&l);
+    if (below(2)) keep(&l);
+    if (below(5) == 0) spoil_handed(&l);
     return l;
 }
 
@@ -154,9 +176,18 @@ static void longhand(const layout *l) {
     try_longhand_read(bytes, count, record_room, room(1));
 }
 
+/* To other shifts and another pitch, mostly good ones; also to those that it has. */
+static void change(const layout *l) {
+    layout to = *l;
+    if (below(4)) to.x = (uint32_t)below(2), to.y = (uint32_t)below(2), to.pitch += below(40);
+    if (below(4) == 0) to.x = (uint32_t)wild();
+    if (below(4) == 0) to.pitch = wild();
+    try_change(l, to.x, to.y, to.pitch);
+}
+
 static void clear(void) {
-    layout l = some();
-    try_clear(&l, near(rule_layout(&l) ? below(300) : rule_end(&l)));
+    layout l = some(), own;
+    try_clear(&l, near(rule_handed(&l, &own) ? below(300) : rule_end(&own)));
 }
 
 /* One of so many, mostly the first, the last or any; also the one after the last, and wild ones. */
@@ -178,22 +209,23 @@ typedef struct {
 } looked_up;
 
 static looked_up look_up(const layout *l, int good, size_t need) {
-    size_t regions[40] = {1}, most = 1, rows = 6;
-    if (good) rule_regions(l, regions);
-    looked_up at = {.level = (uint32_t)one_of(regions[0])};
-    if (good && at.level < regions[0]) {
-        rows = regions[27 + at.level];
+    size_t numbers[LAYOUT] = {1}, most = 1, rows = 6;
+    if (good) rule_numbers(l, numbers);
+    looked_up at = {.level = (uint32_t)one_of(numbers[0])};
+    if (good && at.level < numbers[0]) {
+        rows = numbers[6 + 3 * at.level];
         if (at.level == 0) most = (size_t)(l->record[0] * l->record[0]);
     }
     at.plane = one_of(most), at.y = one_of(rows), at.frame = below(3) ? need : below(2) ? need - 1 : wild();
     return at;
 }
 
-static void row(void) {
-    layout l = some();
-    int good = !rule_layout(&l);
-    looked_up at = look_up(&l, good, good ? rule_end(&l) : below(300));
-    try_row(&l, at.frame, at.level, at.plane, at.y, room(2));
+static void row(int whole) {
+    layout l = some(), own;
+    int good = !rule_handed(&l, &own);
+    looked_up at = look_up(&own, good, good ? rule_end(&own) : below(300));
+    if (whole) try_level_plane(&l, at.frame, at.level, at.plane, room(4));
+    else try_row(&l, at.frame, at.level, at.plane, at.y, room(2));
 }
 
 /* A source pitch that fits a good layout, mostly a narrow one. */
@@ -212,11 +244,11 @@ static void spoil_lengths(size_t *const of[], int count, int spoilt) {
 static void spoil_pitch(size_t *pitch) { *pitch = below(2) ? *pitch - 1 - below(3) : wild(); }
 
 static void build(void) {
-    layout l = some();
+    layout l = some(), own;
     size_t needs[2] = {16, 512}, end = below(300), source = below(300), src_pitch = below(40);
-    if (!rule_layout(&l)) {
-        src_pitch = source_pitch(&l);
-        rule_needs(&l, needs), end = rule_end(&l), source = rule_source(&l, src_pitch);
+    if (!rule_handed(&l, &own)) {
+        src_pitch = source_pitch(&own);
+        rule_needs(&own, needs), end = rule_end(&own), source = rule_source(&own, src_pitch);
     }
     int spoilt = below(3) == 0;
     lengths n = {end, needs[0], needs[1], source, src_pitch};
@@ -278,11 +310,13 @@ static void one(int call) {
     case LONGHAND_WRITE: try_longhand_write(&l, room(21)); break;
     case LONGHAND_READ: longhand(&l); break;
     case SIZES: try_sizes(&l, room(2)); break;
-    case REGIONS: try_regions(&l, room(40)); break;
+    case MAKE: try_make(&l, room(LAYOUT)); break;
+    case CHANGE: change(&l); break;
     case END: try_end(&l, room(1)); break;
     case NEEDS: try_needs(&l, room(2)); break;
     case CLEAR: clear(); break;
-    case ROW: row(); break;
+    case ROW: row(0); break;
+    case LEVEL_PLANE: row(1); break;
     case PARTS: try_parts(&l, room(12)); break;
     case FRAME_ROW: frame_row(); break;
     case BUILD_FRAME: build_frame(); break;
@@ -291,18 +325,19 @@ static void one(int call) {
 }
 
 /* The numbers that each call can give, as bits; 14 is no accepted record's. Of prepare_alike the two answers. */
-static const uint32_t can[CALLS] = {
+static const uint64_t can[CALLS] = {
     [CHECK] = 0x803f, [ACCEPTED] = 0x41, [PACK] = 0x8041, [READ] = 0x708001, [ALIKE] = 3, [LONGHAND_WRITE] = 0x8041,
-    [LONGHAND_READ] = 0x78001, [SIZES] = 0x8041, [REGIONS] = 0x81c1, [END] = 0x81c1, [NEEDS] = 0x81c1, [CLEAR] = 0x9c1, [ROW] = 0x889c1,
-    [BUILD] = 0x3fc1, [PARTS] = 0x1808041, [FRAME_ROW] = 0x1888841, [BUILD_FRAME] = 0x1803e41,
+    [LONGHAND_READ] = 0x78001, [SIZES] = 0x8041, [MAKE] = 0x81c1, [CHANGE] = 0x1000001c1, [END] = 0x100008041, [NEEDS] = 0x100008041,
+    [CLEAR] = 0x100000841, [ROW] = 0x100088841, [LEVEL_PLANE] = 0x100088841, [BUILD] = 0x100003e41, [PARTS] = 0x1808041,
+    [FRAME_ROW] = 0x1888841, [BUILD_FRAME] = 0x1803e41,
 };
 
 /* From so many calls on, each of those numbers has to be met. */
 enum { ENOUGH = 100000 };
 
 void random_calls(uint64_t count) {
-    /* Nine of 24 calls are builds: five of one plane, four of three. */
-    for (uint64_t k = 0; k < count; k++) one(k % 24 < CALLS ? (int)(k % 24) : k % 24 < CALLS + 4 ? BUILD : BUILD_FRAME);
+    /* Nine of 26 calls are builds: five of one plane, four of three. */
+    for (uint64_t k = 0; k < count; k++) one(k % 26 < CALLS ? (int)(k % 26) : k % 26 < CALLS + 4 ? BUILD : BUILD_FRAME);
     tell("numbers met");
     for (int call = 0; call < CALLS; call++) {
         printf("door: %s:", names[call]);

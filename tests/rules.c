@@ -1,12 +1,12 @@
 /* Documents 01 and 02 in plain C, written from the documents alone and not from either code. In order: settings, words, document 02's
-   longhand record, sizes, the table of numbers, document 02's three planes. What bytes a build writes isn't here: that is the Rust's to
-   say. */
+   longhand record, sizes, the table of numbers with document 02's layout, document 02's three planes. What bytes a build writes isn't
+   here: that is the Rust's to say. */
 #include <string.h>
 
 #include "door.h"
 
 enum { PEL, GPU, DOWN, UP, FULL, RC, LEAN, LEVELS, WIDTH, HEIGHT };
-enum { MOST_SIDE = 16384, MOST_PITCH = 32768, MOST_LEVELS = 13 };
+enum { MOST_SIDE = 16384, MOST_PITCH = 32768 };
 
 static int64_t reduced(int64_t d, int times) {
     while (times-- > 0) d = 2 * (d / 4);
@@ -167,14 +167,47 @@ static size_t offset_at(const layout *l, int level) {
     return at;
 }
 
-void rule_regions(const layout *l, size_t regions[40]) {
-    memset(regions, 0, 40 * sizeof *regions);
-    regions[0] = (size_t)l->record[LEVELS];
+/* "Offset, width and height of each level", after the count, shifts and pitch; "zeros past the last". */
+void rule_numbers(const layout *l, size_t numbers[LAYOUT]) {
+    memset(numbers, 0, LAYOUT * sizeof *numbers);
+    numbers[0] = (size_t)l->record[LEVELS], numbers[1] = l->x, numbers[2] = l->y, numbers[3] = l->pitch;
     for (int k = 0; k < l->record[LEVELS]; k++) {
-        regions[1 + k] = offset_at(l, k);
-        regions[1 + MOST_LEVELS + k] = width_at(l, k);
-        regions[1 + 2 * MOST_LEVELS + k] = height_at(l, k);
+        size_t *of = numbers + 4 + 3 * k;
+        of[0] = offset_at(l, k), of[1] = width_at(l, k), of[2] = height_at(l, k);
     }
+}
+
+/* Of a record that isn't accepted only the shifts and the pitch; of shifts above 1 the levels of their last bits. */
+void keep(layout *l) {
+    layout some = *l;
+    some.x &= 1, some.y &= 1;
+    l->handed_count = LAYOUT;
+    memset(l->handed, 0, sizeof l->handed);
+    if (!rule_record(l->record, l->count)) rule_numbers(&some, l->handed);
+    l->handed[1] = l->x, l->handed[2] = l->y, l->handed[3] = l->pitch;
+}
+
+/* "A layout handed in that isn't the one its record gives is refused": by this record and the layout's own shifts and pitch. */
+uint32_t rule_handed(const layout *l, layout *own) {
+    size_t again[LAYOUT];
+    *own = *l;
+    if (rule_record(l->record, l->count)) return 6;
+    if (l->handed_count != LAYOUT || l->handed[1] > 1 || l->handed[2] > 1) return 32;
+    own->x = (uint32_t)l->handed[1], own->y = (uint32_t)l->handed[2], own->pitch = l->handed[3];
+    if (rule_layout(own)) return 32;
+    rule_numbers(own, again);
+    return memcmp(l->handed, again, sizeof again) ? 32 : 0;
+}
+
+/* "Changing the pitch or the shifts of a stored layout gives the layout one would get afresh." */
+uint32_t rule_change(const layout *l, uint32_t x, uint32_t y, size_t pitch, size_t numbers[LAYOUT]) {
+    layout afresh;
+    uint32_t no = rule_handed(l, &afresh);
+    if (no) return no;
+    afresh.x = x, afresh.y = y, afresh.pitch = pitch;
+    no = rule_layout(&afresh);
+    if (!no) rule_numbers(&afresh, numbers);
+    return no;
 }
 
 size_t rule_end(const layout *l) { return offset_at(l, l->record[LEVELS]); }
@@ -184,18 +217,42 @@ void rule_needs(const layout *l, size_t needs[2]) {
     needs[1] = 16 * (l->pitch + 16);
 }
 
-uint32_t rule_frame(const layout *l, size_t frame) {
-    uint32_t no = rule_layout(l);
-    return no ? no : frame < rule_end(l) ? 11 : 0;
+/* "32 the layout isn't the record's, after 6"; then 11. */
+static uint32_t framed(const layout *l, size_t frame, layout *own) {
+    uint32_t no = rule_handed(l, own);
+    return no ? no : frame < rule_end(own) ? 11 : 0;
+}
+
+uint32_t rule_clear(const layout *l, size_t frame) {
+    layout own;
+    return framed(l, frame, &own);
+}
+
+/* A plane that is stored: where it starts, width, height and pitch. */
+static uint32_t stored(const layout *l, uint32_t level, size_t plane, size_t place[4]) {
+    if (level >= (uint32_t)l->record[LEVELS] || plane >= planes_at(l, (int)level)) return 19;
+    place[1] = width_at(l, (int)level), place[2] = height_at(l, (int)level), place[3] = l->pitch;
+    place[0] = offset_at(l, (int)level) + plane * place[2] * l->pitch;
+    return 0;
+}
+
+static uint32_t row_of(const layout *l, uint32_t level, size_t plane, size_t y, size_t place[2]) {
+    size_t of[4];
+    if (stored(l, level, plane, of) || y >= of[2]) return 19;
+    place[0] = of[0] + y * l->pitch, place[1] = of[1];
+    return 0;
 }
 
 uint32_t rule_row(const layout *l, size_t frame, uint32_t level, size_t plane, size_t y, size_t place[2]) {
-    uint32_t no = rule_frame(l, frame);
-    if (no) return no;
-    if (level >= (uint32_t)l->record[LEVELS] || plane >= planes_at(l, (int)level) || y >= height_at(l, (int)level)) return 19;
-    place[0] = offset_at(l, (int)level) + (plane * height_at(l, (int)level) + y) * l->pitch;
-    place[1] = width_at(l, (int)level);
-    return 0;
+    layout own;
+    uint32_t no = framed(l, frame, &own);
+    return no ? no : row_of(&own, level, plane, y, place);
+}
+
+uint32_t rule_level_plane(const layout *l, size_t frame, uint32_t level, size_t plane, size_t place[4]) {
+    layout own;
+    uint32_t no = framed(l, frame, &own);
+    return no ? no : stored(&own, level, plane, place);
 }
 
 size_t rule_source(const layout *l, size_t src_pitch) {
@@ -217,13 +274,14 @@ static uint32_t lent_tested(size_t frame, size_t spill, size_t scratch, size_t e
 }
 
 uint32_t rule_build(const layout *l, const lengths *n) {
-    uint32_t no = rule_layout(l);
+    layout own;
+    uint32_t no = rule_handed(l, &own);
     if (no) return no;
     size_t needs[2];
-    rule_needs(l, needs);
-    if (is_9(l, n->src_pitch)) return 9;
-    if (is_10(l, n->src, n->src_pitch)) return 10;
-    return lent_tested(n->frame, n->spill, n->scratch, rule_end(l), needs);
+    rule_needs(&own, needs);
+    if (is_9(&own, n->src_pitch)) return 9;
+    if (is_10(&own, n->src, n->src_pitch)) return 10;
+    return lent_tested(n->frame, n->spill, n->scratch, rule_end(&own), needs);
 }
 
 /* "Shifts 1,1 for chroma, pitch W for Y and W / 2 for U and V". */
@@ -262,7 +320,7 @@ uint32_t rule_frame_row(const layout *l, size_t frame, uint32_t of, uint32_t lev
     if (frame < parts[9]) return 11;
     if (of > 2) return 19;
     layout part = rule_part(l, (int)of);
-    no = rule_row(&part, parts[3 * of + 2], level, plane, y, place);
+    no = row_of(&part, level, plane, y, place);
     if (!no) place[0] += parts[3 * of];
     return no;
 }

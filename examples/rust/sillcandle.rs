@@ -18,10 +18,13 @@ mod sill {
         pub fn sill_prepare_alike(a: u64, b: u64) -> u32;
         pub fn sill_longhand_write(record: *const i32, count: usize, bytes: *mut u8, bytes_count: usize) -> u32;
         pub fn sill_longhand_read(bytes: *const u8, bytes_count: usize, record: *mut i32, count: usize, after: *mut usize, after_count: usize) -> u32;
-        pub fn sill_written_end(record: *const i32, count: usize, x_shift: u32, y_shift: u32, pitch: usize, end: *mut usize, end_count: usize) -> u32;
-        pub fn sill_needs(record: *const i32, count: usize, x_shift: u32, y_shift: u32, pitch: usize, needs: *mut usize, needs_count: usize) -> u32;
-        pub fn sill_row(frame_length: usize, record: *const i32, count: usize, x_shift: u32, y_shift: u32, pitch: usize, level: u32, plane: usize, y: usize, place: *mut usize, place_count: usize) -> u32;
-        pub fn sill_build_plane(frame: *mut u8, frame_count: usize, spill: *mut u8, spill_count: usize, scratch: *mut u8, scratch_count: usize, record: *const i32, count: usize, x_shift: u32, y_shift: u32, pitch: usize, src: *const u8, src_count: usize, src_pitch: usize) -> u32;
+        pub fn sill_layout(record: *const i32, count: usize, x_shift: u32, y_shift: u32, pitch: usize, layout: *mut usize, layout_count: usize) -> u32;
+        pub fn sill_layout_change(record: *const i32, count: usize, layout: *mut usize, layout_count: usize, x_shift: u32, y_shift: u32, pitch: usize) -> u32;
+        pub fn sill_written_end(record: *const i32, count: usize, layout: *const usize, layout_count: usize, end: *mut usize, end_count: usize) -> u32;
+        pub fn sill_needs(record: *const i32, count: usize, layout: *const usize, layout_count: usize, needs: *mut usize, needs_count: usize) -> u32;
+        pub fn sill_row(frame_length: usize, record: *const i32, count: usize, layout: *const usize, layout_count: usize, level: u32, plane: usize, y: usize, place: *mut usize, place_count: usize) -> u32;
+        pub fn sill_level_plane(frame_length: usize, record: *const i32, count: usize, layout: *const usize, layout_count: usize, level: u32, plane: usize, place: *mut usize, place_count: usize) -> u32;
+        pub fn sill_build_plane(frame: *mut u8, frame_count: usize, spill: *mut u8, spill_count: usize, scratch: *mut u8, scratch_count: usize, record: *const i32, count: usize, layout: *const usize, layout_count: usize, src: *const u8, src_count: usize, src_pitch: usize) -> u32;
         pub fn sill_frame_parts(record: *const i32, count: usize, parts: *mut usize, parts_count: usize) -> u32;
         pub fn sill_frame_row(frame_length: usize, record: *const i32, count: usize, part: u32, level: u32, plane: usize, y: usize, place: *mut usize, place_count: usize) -> u32;
         pub fn sill_build_frame(frame: *mut u8, frame_count: usize, spill: *mut u8, spill_count: usize, scratch: *mut u8, scratch_count: usize, record: *const i32, count: usize, y: *const u8, y_count: usize, y_pitch: usize, u: *const u8, u_count: usize, u_pitch: usize, v: *const u8, v_count: usize, v_pitch: usize) -> u32;
@@ -81,6 +84,7 @@ refusals! {
     22 NoUp "upscale filter isn't told"
     23 NoChroma "three planes: width or height is below 2"
     24 NotFull "three planes: the record isn't full"
+    32 BadLayout "the layout isn't the one that its record gives"
 }
 
 impl Error for Refused {}
@@ -210,59 +214,133 @@ impl fmt::Display for Word {
     }
 }
 
-/// A plane's layout.
-#[derive(Clone, Copy)]
-pub struct Layout {
-    pub record: Record,
-    pub shifts: (u32, u32),
-    pub pitch: usize,
+/// A plane's layout, made once and kept. Only a record makes or changes one, so its numbers are always some record's; with another
+/// record than its own it is `BadLayout`, unless that gives the same numbers.
+#[derive(Clone, Copy, Debug, PartialEq, Eq)]
+pub struct Layout([usize; 43]);
+
+/// Where a level lies: each of its planes takes height * pitch bytes, one after another from the offset on. Of a record that isn't full
+/// nothing of level 0 is stored.
+#[derive(Clone, Copy, Debug, PartialEq, Eq)]
+pub struct Region {
+    pub offset: usize,
+    pub width: usize,
+    pub height: usize,
+}
+
+impl Layout {
+    pub fn levels(&self) -> usize {
+        self.0[0]
+    }
+
+    /// Across and down, each 0 or 1.
+    pub fn shifts(&self) -> (u32, u32) {
+        (self.0[1] as u32, self.0[2] as u32)
+    }
+
+    pub fn pitch(&self) -> usize {
+        self.0[3]
+    }
+
+    /// `None` past the last level.
+    pub fn region(&self, level: usize) -> Option<Region> {
+        self.regions().nth(level)
+    }
+
+    pub fn regions(&self) -> impl Iterator<Item = Region> + '_ {
+        self.0[4..].chunks_exact(3).take(self.levels()).map(|of| Region { offset: of[0], width: of[1], height: of[2] })
+    }
 }
 
 /// A frame that a build has finished.
 pub struct Plane {
+    record: Record,
     layout: Layout,
     pub frame: Vec<u8>,
 }
 
-impl Layout {
-    pub fn written_end(&self) -> Result<usize, Refused> {
-        let (r, mut end) = (&self.record.0, 0);
-        // SAFETY: a record of ten, and one number lent for the answer.
-        done(unsafe { sill::sill_written_end(r.as_ptr(), r.len(), self.shifts.0, self.shifts.1, self.pitch, &mut end, 1) })?;
+impl Record {
+    pub fn layout(&self, shifts: (u32, u32), pitch: usize) -> Result<Layout, Refused> {
+        let (r, mut l) = (&self.0, [0; 43]);
+        // SAFETY: a record of ten, and 43 numbers lent for the answer.
+        done(unsafe { sill::sill_layout(r.as_ptr(), r.len(), shifts.0, shifts.1, pitch, l.as_mut_ptr(), l.len()) })?;
+        Ok(Layout(l))
+    }
+
+    /// The layout becomes the one of these shifts and this pitch; it stays as it was where that is refused.
+    pub fn change_layout(&self, layout: &mut Layout, shifts: (u32, u32), pitch: usize) -> Result<(), Refused> {
+        let (r, l) = (&self.0, &mut layout.0);
+        // SAFETY: a record of ten, and a layout of 43, which is borrowed for this call alone.
+        done(unsafe { sill::sill_layout_change(r.as_ptr(), r.len(), l.as_mut_ptr(), l.len(), shifts.0, shifts.1, pitch) })
+    }
+
+    pub fn written_end(&self, layout: &Layout) -> Result<usize, Refused> {
+        let (r, l, mut end) = (&self.0, &layout.0, 0);
+        // SAFETY: a record of ten, a layout of 43, and one number lent for the answer.
+        done(unsafe { sill::sill_written_end(r.as_ptr(), r.len(), l.as_ptr(), l.len(), &mut end, 1) })?;
         Ok(end)
     }
 
     /// Bytes of spill and of scratch.
-    pub fn needs(&self) -> Result<[usize; 2], Refused> {
-        let (r, mut needs) = (&self.record.0, [0; 2]);
-        // SAFETY: a record of ten, and two numbers lent for the answer.
-        done(unsafe { sill::sill_needs(r.as_ptr(), r.len(), self.shifts.0, self.shifts.1, self.pitch, needs.as_mut_ptr(), needs.len()) })?;
+    pub fn needs(&self, layout: &Layout) -> Result<[usize; 2], Refused> {
+        let (r, l, mut needs) = (&self.0, &layout.0, [0; 2]);
+        // SAFETY: a record of ten, a layout of 43, and two numbers lent for the answer.
+        done(unsafe { sill::sill_needs(r.as_ptr(), r.len(), l.as_ptr(), l.len(), needs.as_mut_ptr(), needs.len()) })?;
         Ok(needs)
     }
 
     /// Builds in a frame of zeros, with spill and scratch of its own.
-    pub fn build(self, src: &[u8], src_pitch: usize) -> Result<Plane, Refused> {
-        let mut frame = vec![0; self.written_end()?];
-        let [mut spill, mut scratch] = self.needs()?.map(|n| vec![0u8; n]);
-        let r = &self.record.0;
+    pub fn build_plane(&self, layout: &Layout, src: &[u8], src_pitch: usize) -> Result<Plane, Refused> {
+        let mut frame = vec![0; self.written_end(layout)?];
+        let [mut spill, mut scratch] = self.needs(layout)?.map(|n| vec![0u8; n]);
+        let (r, l) = (&self.0, &layout.0);
         // SAFETY: each pointer goes with its own slice's count; the vectors are new, so nothing overlaps.
         done(unsafe {
             sill::sill_build_plane(
                 frame.as_mut_ptr(), frame.len(), spill.as_mut_ptr(), spill.len(), scratch.as_mut_ptr(), scratch.len(),
-                r.as_ptr(), r.len(), self.shifts.0, self.shifts.1, self.pitch, src.as_ptr(), src.len(), src_pitch,
+                r.as_ptr(), r.len(), l.as_ptr(), l.len(), src.as_ptr(), src.len(), src_pitch,
             )
         })?;
-        Ok(Plane { layout: self, frame })
+        Ok(Plane { record: *self, layout: *layout, frame })
     }
 }
 
 impl Plane {
+    pub fn layout(&self) -> &Layout {
+        &self.layout
+    }
+
+    /// For a row now and then: record and layout are tested each time. For many, `level_plane`.
     pub fn row(&self, level: u32, plane: usize, y: usize) -> Result<&[u8], Refused> {
-        let (l, r, mut place) = (&self.layout, &self.layout.record.0, [0; 2]);
-        // SAFETY: a record of ten, and two numbers lent for the answer.
-        done(unsafe { sill::sill_row(self.frame.len(), r.as_ptr(), r.len(), l.shifts.0, l.shifts.1, l.pitch, level, plane, y, place.as_mut_ptr(), place.len()) })?;
+        let (r, l, mut place) = (&self.record.0, &self.layout.0, [0; 2]);
+        // SAFETY: a record of ten, a layout of 43, and two numbers lent for the answer.
+        done(unsafe { sill::sill_row(self.frame.len(), r.as_ptr(), r.len(), l.as_ptr(), l.len(), level, plane, y, place.as_mut_ptr(), place.len()) })?;
         let [offset, length] = place;
         Ok(&self.frame[offset..][..length])
+    }
+
+    pub fn level_plane(&self, level: u32, plane: usize) -> Result<LevelPlane<'_>, Refused> {
+        let (r, l, mut place) = (&self.record.0, &self.layout.0, [0; 4]);
+        // SAFETY: a record of ten, a layout of 43, and four numbers lent for the answer.
+        done(unsafe { sill::sill_level_plane(self.frame.len(), r.as_ptr(), r.len(), l.as_ptr(), l.len(), level, plane, place.as_mut_ptr(), place.len()) })?;
+        let [start, width, height, pitch] = place;
+        Ok(LevelPlane { bytes: &self.frame[start..][..height * pitch], width, height, pitch })
+    }
+}
+
+/// One plane of a level, whole: rows of `width` bytes that begin `pitch` bytes apart.
+#[derive(Clone, Copy)]
+pub struct LevelPlane<'a> {
+    pub bytes: &'a [u8],
+    pub width: usize,
+    pub height: usize,
+    pub pitch: usize,
+}
+
+impl<'a> LevelPlane<'a> {
+    pub fn rows(&self) -> impl Iterator<Item = &'a [u8]> + use<'a> {
+        let width = self.width;
+        self.bytes.chunks_exact(self.pitch).map(move |row| &row[..width])
     }
 }
 
@@ -367,13 +445,26 @@ fn main() -> Result<(), Box<dyn Error>> {
     println!("kind 2: {:?}", Record::read_longhand(&longhand));
     assert_eq!(Record::read_longhand(&longhand), Ok(Longhand::Unknown { after: 21 }));
 
+    let mut layout = record.layout((0, 0), 16)?;
+    println!("{} levels, rows {} apart, level 1: {:?}", layout.levels(), layout.pitch(), layout.region(1));
+    assert_eq!((layout.shifts(), layout.region(2)), ((0, 0), None));
     let source: Vec<u8> = (0..64).map(|i| 3 * i).collect();
-    let plane = Layout { record, shifts: (0, 0), pitch: 16 }.build(&source, 8)?;
-    for y in 0.. {
-        let Ok(row) = plane.row(1, 0, y) else { break };
+    let plane = record.build_plane(&layout, &source, 8)?;
+    let whole = plane.level_plane(1, 0)?;
+    for (y, row) in whole.rows().enumerate() {
         println!("level 1, row {y}: {row:?}");
+        assert_eq!(plane.row(1, 0, y), Ok(row));
     }
-    assert_eq!(Layout { record, shifts: (0, 0), pitch: 16 }.build(&source[1..], 8).err(), Some(Refused::BadSource));
+    assert_eq!((whole.rows().count(), whole.height, plane.row(1, 0, 4)), (4, 4, Err(Refused::NoRow)));
+    assert_eq!((plane.level_plane(0, 1).err(), plane.layout()), (Some(Refused::NoRow), &layout));
+    assert_eq!(record.build_plane(&layout, &source[1..], 8).err(), Some(Refused::BadSource));
+    // A changed layout is the one made afresh; what can't be made leaves it as it was.
+    record.change_layout(&mut layout, (0, 0), 24)?;
+    assert_eq!((record.layout((0, 0), 24)?, record.change_layout(&mut layout, (2, 0), 24)), (layout, Err(Refused::BadShift)));
+    assert_eq!((record.layout((0, 0), 24)?, record.layout((0, 0), 7)), (layout, Err(Refused::BadPitch)));
+    if let Err(why) = Record::check(settings, 8, 12)?.written_end(&layout) {
+        println!("8x8's layout with 8x12: {why} ({why:?})");
+    }
     if let Err(why) = Record::check(Settings { pel: Some(3), ..settings }, 8, 8) {
         println!("pel 3: {why} ({why:?})");
     }

@@ -1,28 +1,17 @@
 // An answer put at the front of a lent slice, and its number: 15 where the slice is too short, which comes after 1 to 14 and before the rest.
-// First the numbers of a test and of a refusal, and whether two slices are too short; then numbers, a word and sizes put; last a layout's regions.
+// First the numbers of a test and of a refusal, and whether two slices are too short; last numbers, a word and sizes put.
 ghost use mathlib.Core.Path.{_≡_};
 ghost use mathlib.Core.List.{[], _∷_, _++_};
 ghost use Prim.Native.Nat.{_+_, _≤_};
 ghost use lib.Dec.{ltb};
 ghost use lib.ListN.{length, take, drop};
-ghost use Rattle.settings.specs.Limits.{mostLevels};
 ghost use Rattle.settings.specs.Answers.{answer, number, tested};
 ghost use Rattle.answers.specs.Lent.{lowest, noRoom, tells};
 use crate::record::FIELDS;
-use settings::limits::MOST_LEVELS;
 use settings::refusal::Refusal;
 use settings::refusal::Tested;
 
 pub const TOO_SHORT: u32 = 15;
-
-// Where the offsets, widths and heights of a layout's regions begin, after their count, and how many numbers these are.
-const OFFSETS: usize = 1;
-
-const WIDTHS: usize = OFFSETS + MOST_LEVELS;
-
-const HEIGHTS: usize = WIDTHS + MOST_LEVELS;
-
-pub const COLUMNS: usize = HEIGHTS + MOST_LEVELS;
 
 pub fn number(t: Tested) -> u32
     ensures { λ r. ⌜ r ≡ tested t ⌝ }
@@ -86,32 +75,11 @@ pub fn put_sizes(out: &mut [usize], values: &[usize]) -> u32
     0
 }
 
-fn put_at(out: &mut [usize], at: usize, values: &[usize])
+pub(crate) fn put_at(out: &mut [usize], at: usize, values: &[usize])
     requires { ⌜ at + length (now values) ≤ length (now out) ⌝ }
     ensures { λ r. ⌜ now (out .exit) ≡ take at (now (out .entry)) ++ now (values .entry) ++ drop (at + length (now (values .entry))) (now (out .entry)) ⌝ }
 {
     for i in 0..values.len() {
         out[at + i] = values[i];
     }
-}
-
-// A layout's regions, column after column.
-pub fn put_columns(
-    out: &mut [usize],
-    count: usize,
-    offsets: &[usize],
-    widths: &[usize],
-    heights: &[usize],
-) -> u32
-    requires { ⌜ (length (now offsets) ≡ mostLevels) × (length (now widths) ≡ mostLevels) × (length (now heights) ≡ mostLevels) ⌝ }
-    ensures { λ r. ⌜ answer r (now (out .exit)) ≡ tells 0 ((count ∷ []) ++ now (offsets .entry) ++ now (widths .entry) ++ now (heights .entry)) (now (out .entry)) ⌝ }
-{
-    if out.len() < COLUMNS {
-        return TOO_SHORT;
-    }
-    put_at(out, 0, &[count]);
-    put_at(out, OFFSETS, offsets);
-    put_at(out, WIDTHS, widths);
-    put_at(out, HEIGHTS, heights);
-    0
 }

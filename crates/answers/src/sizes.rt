@@ -1,11 +1,14 @@
-// What a build needs and where the parts of a frame lie, as numbers.
+// What a build needs, where a level's plane lies and where the parts of a frame lie, as numbers.
 ghost use mathlib.Core.Path.{_≡_};
-ghost use Rattle.answers.specs.Fields.{needNumbers, partsNumbers};
+ghost use Rattle.answers.specs.Fields.{needNumbers, planeNumbers, partsNumbers};
 use frames::parts::Parts;
 use layouts::layout::Needs;
+use stored::rows::Plane;
 
 // How many numbers these are.
 pub const NEEDS: usize = 2;
+
+pub const PLANE: usize = 4;
 
 pub const PARTS: usize = 12;
 
@@ -13,6 +16,12 @@ pub fn need_numbers(n: Needs) -> [usize; NEEDS]
     ensures { λ r. ⌜ r ≡ needNumbers n ⌝ }
 {
     [n.spill, n.scratch]
+}
+
+pub fn plane_numbers(p: Plane) -> [usize; PLANE]
+    ensures { λ r. ⌜ r ≡ planeNumbers p ⌝ }
+{
+    [p.start, p.width, p.height, p.pitch]
 }
 
 pub fn parts_numbers(p: Parts) -> [usize; PARTS]

@@ -1,7 +1,6 @@
 // Document 01, "Checked by hand", what is run by a program: the number of a frame that is exactly long enough and of one a byte short, whether targets 8, 7 and 10 wide fuse, and the bytes of level 1 that refining overwrites.
 // A fused level keeps the margins that it has when they are cleared, and zeroes them from 2 * width on when it is built; another's are zeroed, and keep what they held. Last, the smallest picture whose build depends on bytes past the written end.
 use layouts::layout::Layout;
-use layouts::margins::clear_margins;
 use libc::STDOUT_FILENO;
 use planes::build::build_plane;
 use settings::refusal::Tested;
@@ -10,6 +9,9 @@ use settings::super_opts::OptBool;
 use settings::super_opts::OptInt;
 use settings::super_opts::Settings;
 use settings::super_opts::SuperOpts;
+use stored::layout::StoredLayout;
+use stored::layout::level_regions;
+use stored::margins::clear_margins;
 
 fn main() {
     let mut frame = [1u8; 15000];
@@ -151,7 +153,15 @@ fn unfull_layout() -> Layout {
 fn built(frame: &mut [u8], layout: Layout, src: &[u8], src_pitch: usize) -> u32 {
     let mut spill = [7u8; 128];
     let mut scratch = [9u8; 1024];
-    number(build_plane(frame, &mut spill, &mut scratch, layout, src, src_pitch))
+    number(build_plane(
+        frame,
+        &mut spill,
+        &mut scratch,
+        layout.opts,
+        made(layout),
+        src,
+        src_pitch,
+    ))
 }
 
 fn print(what: &[u8], n: u32) {
@@ -167,6 +177,12 @@ fn layout(pel: i32, width: i32, height: i32, x_shift: u32, pitch: usize) -> Layo
         y_shift: 0,
         pitch,
     }
+}
+
+// Zeros where it is refused, which the other calls refuse.
+fn made(layout: Layout) -> StoredLayout {
+    let laid = level_regions(layout);
+    laid.layout
 }
 
 // By the defaults but for pel and full; zeros where it is refused.
@@ -201,7 +217,7 @@ fn cleared(frame: &mut [u8], len: usize, layout: Layout) -> u32 {
     if frame.len() < len {
         return 99;
     }
-    number(clear_margins(&mut frame[..len], layout))
+    number(clear_margins(&mut frame[..len], layout.opts, made(layout)))
 }
 
 fn number(t: Tested) -> u32 {
@@ -218,7 +234,7 @@ fn margin(layout: Layout, at: usize) -> u32 {
 }
 
 fn byte_after(frame: &mut [u8], layout: Layout, at: usize) -> u32 {
-    clear_margins(frame, layout);
+    clear_margins(frame, layout.opts, made(layout));
     byte_at(frame, at)
 }
 

@@ -9,11 +9,14 @@ use Rattle.settings.specs.Sizes.{reduced, levelsIn}
 use Rattle.settings.specs.Check.{settingsNo, accepted}
 use Rattle.settings.proofs.ByHand.{computed as sizesComputed, said as sizesSaid, by-hand as sizes-by-hand}
 use Rattle.filters.proofs.ByHand.{ByHand as Rows, by-hand as rows-by-hand}
+use Rattle.filters.specs.Row.{tab}
 use Rattle.layouts.specs.declared.layout.Layout.{Layout}
 use Rattle.layouts.specs.Layout.{offsetAt}
 use Rattle.layouts.specs.Margins.{cubicFits, fusedAt}
-use Rattle.layouts.specs.Refusals.{layoutNo, frameNo}
-use Rattle.layouts.specs.Answers.{endAnswer}
+use Rattle.layouts.specs.Refusals.{layoutNo}
+use Rattle.stored.specs.Layout.{everyLevel, keeps, isStored}
+use Rattle.stored.specs.Refusals.{storedNo, frameNo}
+use Rattle.stored.specs.Answers.{layoutAnswer, endAnswer}
 
 -- a plane of w by h, full or not, with the other settings left out
 unfoldable pub plane : ℕ → Bool → ℕ → ℕ → ℕ → ℕ → ℕ → Layout
@@ -37,14 +40,15 @@ plane pel full w h levels shift pitch =
     }
 
 pub computed : List ℕ
-unfolding plane layoutNo frameNo accepted settingsNo levelsIn reduced offsetAt total
+unfolding plane layoutNo storedNo frameNo isStored keeps everyLevel tab accepted settingsNo levelsIn reduced offsetAt total
 computed =
     let q = plane 2 true 64 48 4 0 64 in
+    let s = layoutAnswer q .value in
     offsetAt q 1
-    ∷ endAnswer q .no
-    ∷ endAnswer q .value
-    ∷ frameNo q 14976
-    ∷ frameNo q 14975
+    ∷ endAnswer (q .opts) s .no
+    ∷ endAnswer (q .opts) s .value
+    ∷ frameNo (q .opts) s 14976
+    ∷ frameNo (q .opts) s 14975
     ∷ []
 
 -- "64x48 at pel 2, pitch 64 puts level 1 at 12,288 and ends at 14,976"; "frame 14,975 bytes gives 11"
@@ -52,7 +56,7 @@ pub said : List ℕ
 said = 12288 ∷ 0 ∷ 14976 ∷ 0 ∷ 11 ∷ []
 
 pub by-hand : computed ≡ said
-unfolding computed said plane layoutNo frameNo accepted settingsNo levelsIn reduced offsetAt total
+unfolding computed said plane layoutNo storedNo frameNo isStored keeps everyLevel tab accepted settingsNo levelsIn reduced offsetAt total
 by-hand = refl
 
 -- level 1 is 8, 7 and 10 wide

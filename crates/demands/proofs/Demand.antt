@@ -27,7 +27,12 @@ use Rattle.settings.proofs.word.prepare_alike.Reads as prepare-alike-reads
 use Rattle.layouts.specs.declared.layout.Layout.{Layout}
 use Rattle.layouts.specs.Layout.{widthAt, writtenEnd, spillNeed, scratchNeed}
 use Rattle.layouts.specs.Refusals.{badPitch, layoutNo, sourceNeed, lentNo, buildNo}
+use Rattle.stored.specs.declared.layout.StoredLayout.{StoredLayout}
+use Rattle.stored.specs.Layout.{viewOf, storedOf}
+use Rattle.stored.proofs.Exact.{made-passes}
+use Rattle.stored.proofs.Numbers.{build-stored, build-as-view}
 use Rattle.planes.specs.Build.{frameBy, planeNo, LeavesBy}
+use Rattle.planes.proofs.Whole.{ready}
 use Rattle.demands.specs.Demands.{Inputs, withLayout, SameBuild, Differ, withDown, withUp, HalvingDiffers, UpscaleDiffers, Demand3, PacksTo, CallLeaves, leaves, Leaves}
 use Rattle.demands.proofs.Alike.{alike-build}
 use Rattle.demands.proofs.Demanded.{then-none, refuse-none, reads-met}
@@ -67,25 +72,29 @@ with-needs q n sp len spill scratch e =
     then-none before (lentNo q n sp len (spillNeed q) (scratchNeed q)) (then-first before lent e) (lent-needs q n sp len spill scratch (then-rest before lent e))
 
 -- what a build that was done leaves, with the fused path on or off
-pub done-leaves : (fuse : Bool) (q : Layout) (src : List ℕ) (sp : ℕ) (F S X : List ℕ) {k : ℕ} {F' S' X' : List ℕ} → LeavesBy fuse q src sp F S X k F' S' X' → k ≡ 0 → (buildNo q (length src) sp (length F) (spillNeed q) (scratchNeed q) ≡ 0) × (F' ≡ frameBy fuse q src sp F)
-done-leaves fuse q src sp F S X leaves done =
-    let n = planeNo q src sp F S X in
+pub done-leaves : (fuse : Bool) (r : SuperOpts) (s : StoredLayout) (src : List ℕ) (sp : ℕ) (F S X : List ℕ) {k : ℕ} {F' S' X' : List ℕ} → LeavesBy fuse r s src sp F S X k F' S' X' → k ≡ 0 → (buildNo (viewOf r s) (length src) sp (length F) (spillNeed (viewOf r s)) (scratchNeed (viewOf r s)) ≡ 0) × (F' ≡ frameBy fuse (viewOf r s) src sp F)
+done-leaves fuse r s src sp F S X leaves done =
+    let q = viewOf r s in
+    let n = planeNo r s src sp F S X in
     let none : n ≡ 0 = sym (number-of (leaves .0)) ∙ done in
-    (with-needs q (length src) sp (length F) (length S) (length X) none, value-done (frameBy fuse q src sp F) F (leaves .0) none)
+    let as-view = build-as-view r s (length src) sp (length F) (length S) (length X) (build-stored r s (length src) sp (length F) (length S) (length X) none) in
+    (with-needs q (length src) sp (length F) (length S) (length X) (sym as-view ∙ none), value-done (frameBy fuse q src sp F) F (leaves .0) none)
 
 module _ (r : SuperOpts) (g : Inputs) (m : List ℕ) where
   abbrev q : Layout
   q = withLayout r g
 
   leaves-by : CallLeaves r g m → Leaves r g m
-  leaves-by f = done-leaves true q (g .plane) (g .«src_pitch») (g .frame) (f .spill) (f .scratch) (f .call) refl
+  leaves-by f = done-leaves true r (storedOf q) (g .plane) (g .«src_pitch») (g .frame) (f .spill) (f .scratch) (f .call) refl
 
   finished-by : Leaves r g m → CallLeaves r g m
   finished-by l =
       let spill = replicate {A = ℕ} (spillNeed q) 0 in
       let scratch = replicate {A = ℕ} (scratchNeed q) 0 in
-      let n = planeNo q (g .plane) (g .«src_pitch») (g .frame) spill scratch in
-      let none : n ≡ 0 = rw (length-replicate {A = ℕ} (spillNeed q) 0, length-replicate {A = ℕ} (scratchNeed q) 0) (l .0) in
+      let n = planeNo r (storedOf q) (g .plane) (g .«src_pitch») (g .frame) spill scratch in
+      let layout = ready q (length (g .plane)) (g .«src_pitch») (length (g .frame)) (spillNeed q) (scratchNeed q) (l .0) .layout in
+      let as-view = build-as-view r (storedOf q) (length (g .plane)) (g .«src_pitch») (length (g .frame)) (length spill) (length scratch) (made-passes q layout) in
+      let none : n ≡ 0 = as-view ∙ rw (length-replicate {A = ℕ} (spillNeed q) 0, length-replicate {A = ℕ} (scratchNeed q) 0) (l .0) in
       record {
         spill = spill;
         scratch = scratch;

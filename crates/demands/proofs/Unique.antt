@@ -1,4 +1,4 @@
--- One outcome: no second answer, row, frame, spill or scratch meets the contract of a public call (`OneOutcome`), by one law (`determined`). The calls of `settings` and `longhands`, proved there, are named among the imports; then come the rows of `filters`, the inner calls of `settings`, `layouts` and `builder`, and last the public calls of `layouts` and `planes`, `build_plane` by the inner call that it makes. docs/EXCEPTIONS.md has those that aren't here. Assumes nothing.
+-- One outcome: no second answer, row, frame, spill or scratch meets the contract of a public call (`OneOutcome`), by one law (`determined`). The calls of `settings` and `longhands`, proved there, are named among the imports; then come the rows of `filters`, the inner calls of `settings`, `layouts`, `stored` and `builder`, and last the public calls of `stored` and `planes`, `build_plane` by the inner call that it makes. docs/EXCEPTIONS.md has those that aren't here. Assumes nothing.
 use mathlib.Core.Bool.{true}
 use mathlib.Core.List.{List}
 use Prim.Native.Nat.{ℕ}
@@ -22,14 +22,15 @@ use Rattle.filters.proofs.halving.cubic_rest.Reads as cubic-rest-reads
 use Rattle.filters.proofs.half_pel.HalfPel.from_option.Reads as half-pel-from-option-reads
 use Rattle.filters.proofs.half_pel.HalfPel.vertical.Reads as half-vertical-reads
 use Rattle.filters.proofs.half_pel.HalfPel.horizontal.Reads as half-horizontal-reads
-use Rattle.layouts.proofs.Known.{laid-known, ended-known, needed-known, placed-known, left-known}
-use Rattle.layouts.proofs.layout.Layout.level_regions.Reads as level-regions-reads
-use Rattle.layouts.proofs.layout.Layout.written_end.Reads as written-end-reads
-use Rattle.layouts.proofs.layout.Layout.needs.Reads as needs-reads
-use Rattle.layouts.proofs.rows.row_tested.Reads as row-tested-reads
-use Rattle.layouts.proofs.rows.row_place.Reads as row-place-reads
-use Rattle.layouts.proofs.rows.row.Reads as row-reads
-use Rattle.layouts.proofs.margins.clear_margins.Reads as clear-margins-reads
+use Rattle.layouts.proofs.Known.{placed-known, left-known}
+use Rattle.stored.proofs.Known.{laid-known, ended-known, needed-known, planed-known}
+use Rattle.stored.proofs.layout.level_regions.Reads as level-regions-reads
+use Rattle.stored.proofs.layout.StoredLayout.written_end.Reads as written-end-reads
+use Rattle.stored.proofs.layout.StoredLayout.needs.Reads as needs-reads
+use Rattle.stored.proofs.rows.row_tested.Reads as row-tested-reads
+use Rattle.stored.proofs.rows.row_place.Reads as row-place-reads
+use Rattle.stored.proofs.rows.row.Reads as row-reads
+use Rattle.stored.proofs.margins.clear_margins.Reads as clear-margins-reads
 use Rattle.settings.proofs.super_opts.levels_of.Reads as levels-of-reads
 use Rattle.settings.proofs.super_opts.reduce_once.Reads as reduce-once-reads
 use Rattle.settings.proofs.super_opts.SuperOpts.accepted_but_levels.Reads as accepted-but-levels-reads
@@ -38,15 +39,30 @@ use Rattle.settings.proofs.super_opts.SuperOpts.accepted_width.Reads as accepte
 use Rattle.layouts.proofs.levels.width.Reads as width-reads
 use Rattle.layouts.proofs.levels.height.Reads as height-reads
 use Rattle.layouts.proofs.levels.offset.Reads as offset-reads
-use Rattle.layouts.proofs.levels.region.Reads as region-reads
 use Rattle.layouts.proofs.lent.spill_need.Reads as spill-need-reads
 use Rattle.layouts.proofs.lent.source_need.Reads as source-need-reads
 use Rattle.layouts.proofs.lent.scratch_need.Reads as scratch-need-reads
-use Rattle.layouts.proofs.lent.build_tested.Reads as build-tested-reads
+use Rattle.stored.proofs.lent.build_tested.Reads as build-tested-reads
 use Rattle.layouts.proofs.levels.bad_pitch.Reads as bad-pitch-reads
-use Rattle.layouts.proofs.margins.is_fused.Reads as is-fused-reads
 use Rattle.layouts.proofs.rows.row_in.Reads as row-in-reads
 use Rattle.layouts.proofs.rows.hand_out.Reads as hand-out-reads
+use Rattle.layouts.proofs.levels.stored.Reads as stored-reads
+use Rattle.layouts.proofs.rows.placed_at.Reads as placed-at-reads
+use Rattle.layouts.proofs.margins.fuses.Reads as fuses-reads
+use Rattle.layouts.proofs.margins.clear_level.Reads as clear-level-reads
+use Rattle.layouts.proofs.lent.lent_tested.Reads as lent-tested-reads
+use Rattle.layouts.proofs.levels.tested.Reads as layout-tested-reads
+use Rattle.layouts.proofs.descent.Descent.top.Reads as descent-top-reads
+use Rattle.layouts.proofs.descent.Descent.next.Reads as descent-next-reads
+use Rattle.layouts.proofs.descent.Descent.down.Reads as descent-down-reads
+use Rattle.layouts.proofs.descent.Descent.region.Reads as descent-region-reads
+use Rattle.stored.proofs.layout.regions.Reads as regions-reads
+use Rattle.stored.proofs.layout.StoredLayout.view.Reads as view-reads
+use Rattle.stored.proofs.layout.StoredLayout.region.Reads as region-reads
+use Rattle.stored.proofs.layout.StoredLayout.end.Reads as end-reads
+use Rattle.stored.proofs.layout.StoredLayout.tested.Reads as stored-tested-reads
+use Rattle.stored.proofs.layout.StoredLayout.change.Reads as change-reads
+use Rattle.stored.proofs.rows.level_plane.Reads as level-plane-reads
 use Rattle.builder.proofs.canvas.put.Reads as put-reads
 use Rattle.builder.proofs.canvas.span.Reads as span-reads
 use Rattle.planes.proofs.Whole.{one-left}
@@ -127,9 +143,6 @@ height-unique κs x r s e f p q = determined itself p q
 pub offset-unique : (κs : Lfts 0) → OneOutcome (offset-reads.Post κs) (λ r e. r)
 offset-unique κs x r s e f p q = determined itself p q
 
-pub region-unique : (κs : Lfts 0) → OneOutcome (region-reads.Post κs) (λ r e. r)
-region-unique κs x r s e f p q = determined itself p q
-
 pub spill-need-unique : (κs : Lfts 0) → OneOutcome (spill-need-reads.Post κs) (λ r e. r)
 spill-need-unique κs x r s e f p q = determined itself p q
 
@@ -145,14 +158,53 @@ scratch-need-unique κs x r s e f p q = determined itself p q
 pub bad-pitch-unique : (κs : Lfts 0) → OneOutcome (bad-pitch-reads.Post κs) (λ r e. r)
 bad-pitch-unique κs x r s e f p q = determined itself p q
 
-pub is-fused-unique : (κs : Lfts 0) → OneOutcome (is-fused-reads.Post κs) (λ r e. r)
-is-fused-unique κs x r s e f p q = determined itself p q
-
 pub row-in-unique : (κs : Lfts 0) → OneOutcome (row-in-reads.Post κs) (λ r e. r)
 row-in-unique κs x r s e f p q = determined placed-known p q
 
 pub hand-out-unique : (κs : Lfts 1) → OneOutcome {O = (ℕ × ℕ) × List ℕ} (hand-out-reads.Post κs) (λ r e. (ptr r, now r))
 hand-out-unique κs x r s e f p q = rw (determined itself (p .0) (q .0), determined itself (p .1) (q .1))
+
+pub stored-unique : (κs : Lfts 0) → OneOutcome (stored-reads.Post κs) (λ r e. r)
+stored-unique κs x r s e f p q = determined itself p q
+
+pub placed-at-unique : (κs : Lfts 0) → OneOutcome (placed-at-reads.Post κs) (λ r e. r)
+placed-at-unique κs x r s e f p q = determined placed-known p q
+
+pub fuses-unique : (κs : Lfts 0) → OneOutcome (fuses-reads.Post κs) (λ r e. r)
+fuses-unique κs x r s e f p q = determined itself p q
+
+pub clear-level-unique : (κs : Lfts 1) → OneOutcome (clear-level-reads.Post κs) (λ r e. now (e .0))
+clear-level-unique κs x r s e f p q = determined itself p q
+
+pub lent-tested-unique : (κs : Lfts 0) → OneOutcome (lent-tested-reads.Post κs) (λ r e. r)
+lent-tested-unique κs x r s e f p q = determined tested-known p q
+
+pub layout-tested-unique : (κs : Lfts 0) → OneOutcome (layout-tested-reads.Post κs) (λ r e. r)
+layout-tested-unique κs x r s e f p q = determined tested-known p q
+
+pub descent-top-unique : (κs : Lfts 0) → OneOutcome (descent-top-reads.Post κs) (λ r e. r)
+descent-top-unique κs x r s e f p q = determined itself p q
+
+pub descent-next-unique : (κs : Lfts 0) → OneOutcome (descent-next-reads.Post κs) (λ r e. r)
+descent-next-unique κs x r s e f p q = determined itself p q
+
+pub descent-down-unique : (κs : Lfts 0) → OneOutcome (descent-down-reads.Post κs) (λ r e. r)
+descent-down-unique κs x r s e f p q = determined itself p q
+
+pub descent-region-unique : (κs : Lfts 0) → OneOutcome (descent-region-reads.Post κs) (λ r e. r)
+descent-region-unique κs x r s e f p q = determined itself p q
+
+pub regions-unique : (κs : Lfts 0) → OneOutcome (regions-reads.Post κs) (λ r e. r)
+regions-unique κs x r s e f p q = determined itself p q
+
+pub view-unique : (κs : Lfts 0) → OneOutcome (view-reads.Post κs) (λ r e. r)
+view-unique κs x r s e f p q = determined itself p q
+
+pub region-unique : (κs : Lfts 0) → OneOutcome (region-reads.Post κs) (λ r e. r)
+region-unique κs x r s e f p q = determined itself p q
+
+pub end-unique : (κs : Lfts 0) → OneOutcome (end-reads.Post κs) (λ r e. r)
+end-unique κs x r s e f p q = determined itself p q
 
 pub put-unique : (κs : Lfts 2) → OneOutcome (put-reads.Post κs) (λ r e. now (e .0))
 put-unique κs x r s e f p q = determined itself p q
@@ -164,9 +216,15 @@ span-unique κs x r s e f p q = rw (determined itself (p .0) (q .0), determined 
 pub build-spilled-unique : (κs : Lfts 4) → OneOutcome (build-spilled-reads.Post κs) (λ r e. now (e .1 .0))
 build-spilled-unique κs x r s e f p q = determined itself p q
 
--- ---- the calls of `layouts` and `planes`
+-- ---- the calls of `stored` and `planes`
 pub level-regions-unique : (κs : Lfts 0) → OneOutcome (level-regions-reads.Post κs) (λ r e. r)
 level-regions-unique κs x r s e f p q = determined laid-known p q
+
+pub stored-tested-unique : (κs : Lfts 0) → OneOutcome (stored-tested-reads.Post κs) (λ r e. r)
+stored-tested-unique κs x r s e f p q = determined tested-known p q
+
+pub change-unique : (κs : Lfts 0) → OneOutcome (change-reads.Post κs) (λ r e. r)
+change-unique κs x r s e f p q = determined laid-known p q
 
 pub written-end-unique : (κs : Lfts 0) → OneOutcome (written-end-reads.Post κs) (λ r e. r)
 written-end-unique κs x r s e f p q = determined ended-known p q
@@ -179,6 +237,9 @@ row-tested-unique κs x r s e f p q = determined tested-known p q
 
 pub row-place-unique : (κs : Lfts 0) → OneOutcome (row-place-reads.Post κs) (λ r e. r)
 row-place-unique κs x r s e f p q = determined placed-known p q
+
+pub level-plane-unique : (κs : Lfts 0) → OneOutcome (level-plane-reads.Post κs) (λ r e. r)
+level-plane-unique κs x r s e f p q = determined planed-known p q
 
 -- the bytes of the row, and where they lie
 pub row-unique : (κs : Lfts 1) → OneOutcome {O = (ℕ × ℕ) × List ℕ} (row-reads.Post κs) (λ r e. (ptr r, now r))

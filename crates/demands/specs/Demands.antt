@@ -17,6 +17,7 @@ use Rattle.longhands.specs.LittleEndian.{bytes}
 use Rattle.layouts.specs.declared.layout.Layout.{Layout}
 use Rattle.layouts.specs.Layout.{spillNeed, scratchNeed}
 use Rattle.layouts.specs.Refusals.{buildNo}
+use Rattle.stored.specs.Layout.{storedOf}
 use Rattle.planes.specs.Build.{builtFrame, BuildLeaves}
 
 -- ---- "plane, source pitch, layout and starting frame"
@@ -105,13 +106,13 @@ pub record Demand3 (Behind : SuperOpts → Type 0) (Leaves : SuperOpts → Input
 abbrev pub PacksTo : ℕ → SuperOpts → Type 0
 PacksTo v r = Returns r × (packed (Word v) ≡ packAnswer r)
 
--- with some spill and scratch `build_plane` answers that it is done, and leaves m in the frame
+-- with the layout that making gives, and some spill and scratch, `build_plane` answers that it is done, and leaves m in the frame
 pub record CallLeaves (r : SuperOpts) (g : Inputs) (m : List ℕ) : Type 0 where
   pub spill : List ℕ
   pub scratch : List ℕ
   pub spill' : List ℕ
   pub scratch' : List ℕ
-  pub call : BuildLeaves (withLayout r g) (g .plane) (g .«src_pitch») (g .frame) spill scratch (tested Fine) m spill' scratch'
+  pub call : BuildLeaves r (storedOf (withLayout r g)) (g .plane) (g .«src_pitch») (g .frame) spill scratch (tested Fine) m spill' scratch'
 
 -- ---- by the definitions
 -- the build isn't refused, with as much spill and scratch as it needs

@@ -14,7 +14,9 @@ use Rattle.exports.proofs.words.sill_prepare_alike.Reads as sill-prepar
 use Rattle.exports.proofs.words.sill_super_sizes.Reads as sill-super-sizes-reads
 use Rattle.exports.proofs.longhand.sill_longhand_write.Reads as sill-longhand-write-reads
 use Rattle.exports.proofs.longhand.sill_longhand_read.Reads as sill-longhand-read-reads
-use Rattle.exports.proofs.plane.sill_level_regions.Reads as sill-level-regions-reads
+use Rattle.exports.proofs.plane.sill_layout.Reads as sill-layout-reads
+use Rattle.exports.proofs.plane.sill_layout_change.Reads as sill-layout-change-reads
+use Rattle.exports.proofs.plane.sill_level_plane.Reads as sill-level-plane-reads
 use Rattle.exports.proofs.plane.sill_written_end.Reads as sill-written-end-reads
 use Rattle.exports.proofs.plane.sill_needs.Reads as sill-needs-reads
 use Rattle.exports.proofs.plane.sill_clear_margins.Reads as sill-clear-margins-reads
@@ -49,23 +51,29 @@ sill-longhand-write-unique κs x r s e f p q = determined itself p q
 pub sill-longhand-read-unique : (κs : Lfts 3) → OneOutcome {O = Answer (List ℤ) × Answer (List ℕ)} (sill-longhand-read-reads.Post κs) (λ r e. (answer r (now (e .1 .0)), answer r (now (e .1 .1 .0))))
 sill-longhand-read-unique κs x r s e f p q = rw (determined itself (p .0) (q .0), determined itself (p .1) (q .1))
 
-pub sill-level-regions-unique : (κs : Lfts 2) → OneOutcome (sill-level-regions-reads.Post κs) (λ r e. answer r (now (e .1 .1 .1 .1 .0)))
-sill-level-regions-unique κs x r s e f p q = determined itself p q
+pub sill-layout-unique : (κs : Lfts 2) → OneOutcome (sill-layout-reads.Post κs) (λ r e. answer r (now (e .1 .1 .1 .1 .0)))
+sill-layout-unique κs x r s e f p q = determined itself p q
 
-pub sill-written-end-unique : (κs : Lfts 2) → OneOutcome (sill-written-end-reads.Post κs) (λ r e. answer r (now (e .1 .1 .1 .1 .0)))
+pub sill-layout-change-unique : (κs : Lfts 2) → OneOutcome (sill-layout-change-reads.Post κs) (λ r e. answer r (now (e .1 .0)))
+sill-layout-change-unique κs x r s e f p q = determined itself p q
+
+pub sill-written-end-unique : (κs : Lfts 3) → OneOutcome (sill-written-end-reads.Post κs) (λ r e. answer r (now (e .1 .1 .0)))
 sill-written-end-unique κs x r s e f p q = determined itself p q
 
-pub sill-needs-unique : (κs : Lfts 2) → OneOutcome (sill-needs-reads.Post κs) (λ r e. answer r (now (e .1 .1 .1 .1 .0)))
+pub sill-needs-unique : (κs : Lfts 3) → OneOutcome (sill-needs-reads.Post κs) (λ r e. answer r (now (e .1 .1 .0)))
 sill-needs-unique κs x r s e f p q = determined itself p q
 
-pub sill-clear-margins-unique : (κs : Lfts 2) → OneOutcome (sill-clear-margins-reads.Post κs) (λ r e. answer r (now (e .0)))
+pub sill-clear-margins-unique : (κs : Lfts 3) → OneOutcome (sill-clear-margins-reads.Post κs) (λ r e. answer r (now (e .0)))
 sill-clear-margins-unique κs x r s e f p q = determined itself p q
 
-pub sill-row-unique : (κs : Lfts 2) → OneOutcome (sill-row-reads.Post κs) (λ r e. answer r (now (e .1 .1 .1 .1 .1 .1 .1 .1 .0)))
+pub sill-row-unique : (κs : Lfts 3) → OneOutcome (sill-row-reads.Post κs) (λ r e. answer r (now (e .1 .1 .1 .1 .1 .1 .0)))
 sill-row-unique κs x r s e f p q = determined itself p q
 
+pub sill-level-plane-unique : (κs : Lfts 3) → OneOutcome (sill-level-plane-reads.Post κs) (λ r e. answer r (now (e .1 .1 .1 .1 .1 .0)))
+sill-level-plane-unique κs x r s e f p q = determined itself p q
+
 -- with the frame, with what spill and with what scratch is left as
-pub sill-build-plane-unique : (κs : Lfts 5) → OneOutcome {O = Answer (List ℕ) × Answer (List ℕ) × Answer (List ℕ)} (sill-build-plane-reads.Post κs) (λ r e. (answer r (now (e .0)), answer r (now (e .1 .0)), answer r (now (e .1 .1 .0))))
+pub sill-build-plane-unique : (κs : Lfts 6) → OneOutcome {O = Answer (List ℕ) × Answer (List ℕ) × Answer (List ℕ)} (sill-build-plane-reads.Post κs) (λ r e. (answer r (now (e .0)), answer r (now (e .1 .0)), answer r (now (e .1 .1 .0))))
 sill-build-plane-unique κs x r s e f p q = rw (determined itself (p .0) (q .0), determined itself (p .1) (q .1), determined itself (p .2) (q .2))
 
 pub sill-frame-parts-unique : (κs : Lfts 2) → OneOutcome (sill-frame-parts-reads.Post κs) (λ r e. answer r (now (e .1 .0)))

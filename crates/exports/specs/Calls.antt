@@ -1,7 +1,7 @@
 -- The library's calls: the number of each, and what it leaves in the slices that are lent for its answer. "The lowest number that applies is given, and none other"; "no refusal changes a lent byte", but for the place that reading a longhand record tells with 16.
--- First the numbers of a layout, and of regions and places; then the calls; last reading a longhand record.
+-- First what settles a layout, and the numbers of a row's place; then the calls; last reading a longhand record.
 use mathlib.Core.Bool.{cond, _||_}
-use mathlib.Core.List.{List, [], _∷_, _++_}
+use mathlib.Core.List.{List, [], _∷_}
 use Prim.Native.Nat.{ℕ}
 use lib.Dec.{eqb}
 use lib.IntN.{ℤ, pos}
@@ -15,19 +15,20 @@ use Rattle.settings.specs.Answers.{Answer, answer, ifDone, written}
 use Rattle.longhands.specs.Longhand.{longhandNo, longhandAnswer}
 use Rattle.layouts.specs.declared.layout.Layout.{Layout}
 use Rattle.layouts.specs.declared.rows.Run.{Run}
-use Rattle.layouts.specs.Layout.{levelsOf, regionOr, writtenEnd}
-use Rattle.layouts.specs.Refusals.{layoutNo, rowNo}
-use Rattle.layouts.specs.Answers.{Columns, columns, needsOf, runOf}
+use Rattle.layouts.specs.Layout.{writtenEnd}
+use Rattle.layouts.specs.Refusals.{layoutNo}
+use Rattle.layouts.specs.Answers.{needsOf, runOf}
+use Rattle.stored.specs.declared.layout.StoredLayout.{StoredLayout}
+use Rattle.stored.specs.Layout.{viewOf, storedOf}
+use Rattle.stored.specs.Refusals.{storedNo, rowNo, levelPlaneNo}
+use Rattle.stored.specs.Answers.{changeAnswer, levelPlane}
 use Rattle.frames.specs.Parts.{planesNo, partsOf, rowInNo, runInOf}
-use Rattle.answers.specs.Fields.{numbersOf, recordOf, toldNumbers, needNumbers, partsNumbers}
+use Rattle.answers.specs.Fields.{numbersOf, recordOf, toldNumbers, layoutNumbers, layoutFrom, needNumbers, planeNumbers, partsNumbers}
 use Rattle.answers.specs.Lent.{noRoom, lowest, tells}
 
 -- ---- the numbers
 abbrev pub layoutOf : List ℤ → ℕ → ℕ → ℕ → Layout
 layoutOf l xs ys p = record { opts = recordOf l; «x_shift» = xs; «y_shift» = ys; pitch = p }
-
-abbrev pub columnNumbers : Columns → List ℕ
-columnNumbers c = (c .count ∷ []) ++ c .offsets ++ c .widths ++ c .heights
 
 abbrev pub runNumbers : Run → List ℕ
 runNumbers r = r .offset ∷ r .length ∷ []
@@ -45,18 +46,26 @@ readTells v = tells (readNo v) (toldNumbers (describe (candidate v)))
 abbrev pub sizesTells : SuperOpts → List ℤ → Answer (List ℤ)
 sizesTells r = tells (recordNo r) (pos (superWidth r) ∷ pos (superHeight r) ∷ [])
 
-abbrev pub regionsTells : Layout → List ℕ → Answer (List ℕ)
-regionsTells q = tells (layoutNo q) (columnNumbers (columns (levelsOf q) (regionOr q)))
+abbrev pub layoutTells : Layout → List ℕ → Answer (List ℕ)
+layoutTells q = tells (layoutNo q) (layoutNumbers (storedOf q))
 
-abbrev pub endTells : Layout → List ℕ → Answer (List ℕ)
-endTells q = tells (layoutNo q) (writtenEnd q ∷ [])
+-- of the record r, for the shifts x, y and the pitch p: the layout in l is the one that is changed
+abbrev pub changeTells : SuperOpts → ℕ → ℕ → ℕ → List ℕ → Answer (List ℕ)
+changeTells r x y p l = let a = changeAnswer r (layoutFrom l) x y p in ifDone (a .no) (written (layoutNumbers (a .value)) l) l
 
-abbrev pub needsTells : Layout → List ℕ → Answer (List ℕ)
-needsTells q = tells (layoutNo q) (needNumbers (needsOf q))
+abbrev pub endTells : SuperOpts → StoredLayout → List ℕ → Answer (List ℕ)
+endTells r s = tells (storedNo r s) (writtenEnd (viewOf r s) ∷ [])
+
+abbrev pub needsTells : SuperOpts → StoredLayout → List ℕ → Answer (List ℕ)
+needsTells r s = tells (storedNo r s) (needNumbers (needsOf (viewOf r s)))
 
 -- row y of plane k of level l, in a frame of len bytes
-abbrev pub rowTells : Layout → ℕ → ℕ → ℕ → ℕ → List ℕ → Answer (List ℕ)
-rowTells q len l k y = tells (rowNo q len l k y) (runNumbers (runOf q l k y))
+abbrev pub rowTells : SuperOpts → StoredLayout → ℕ → ℕ → ℕ → ℕ → List ℕ → Answer (List ℕ)
+rowTells r s len l k y = tells (rowNo r s len l k y) (runNumbers (runOf (viewOf r s) l k y))
+
+-- plane k of level l
+abbrev pub planeTells : SuperOpts → StoredLayout → ℕ → ℕ → ℕ → List ℕ → Answer (List ℕ)
+planeTells r s len l k = tells (levelPlaneNo r s len l k) (planeNumbers (levelPlane (viewOf r s) l k))
 
 abbrev pub partsTells : SuperOpts → List ℕ → Answer (List ℕ)
 partsTells r = tells (planesNo r) (partsNumbers (partsOf r))

@@ -1,25 +1,32 @@
-// A plane of a frame: its layout by numbers; where its levels and rows lie, what a build needs, clearing margins, and the build.
+// A plane of a frame: its layout, made and changed; where its levels end, what a build needs, where a row and a level's plane lie, clearing margins, and the build.
 ghost use mathlib.Core.Path.{_≡_};
 ghost use Rattle.settings.specs.Answers.{answer};
-ghost use Rattle.layouts.specs.Answers.{clearAnswer};
+ghost use Rattle.stored.specs.Answers.{clearAnswer};
 ghost use Rattle.planes.specs.Build.{BuildLeaves};
-ghost use Rattle.exports.specs.Calls.{layoutOf, regionsTells, endTells, needsTells, rowTells};
+ghost use Rattle.answers.specs.Fields.{recordOf, layoutFrom};
+ghost use Rattle.exports.specs.Calls.{layoutOf, layoutTells, changeTells, endTells, needsTells, rowTells, planeTells};
+use answers::layout::LAYOUT;
+use answers::layout::layout_from;
+use answers::layout::put_layout;
 use answers::record::record_of;
-use answers::room::COLUMNS;
 use answers::room::lowest;
 use answers::room::number;
-use answers::room::put_columns;
 use answers::room::put_sizes;
 use answers::sizes::NEEDS;
+use answers::sizes::PLANE;
 use answers::sizes::need_numbers;
-use layouts::layout::Ended;
+use answers::sizes::plane_numbers;
 use layouts::layout::Layout;
-use layouts::layout::Needed;
-use layouts::margins::clear_margins;
 use layouts::rows::Placed;
-use layouts::rows::row_place;
 use planes::build::build_plane;
 use settings::refusal::Tested;
+use stored::layout::Ended;
+use stored::layout::Needed;
+use stored::layout::level_regions;
+use stored::margins::clear_margins;
+use stored::rows::Planed;
+use stored::rows::level_plane;
+use stored::rows::row_place;
 
 fn layout_of(fields: &[i32], x_shift: u32, y_shift: u32, pitch: usize) -> Layout
     ensures { λ r. ⌜ r ≡ layoutOf (now (fields .entry)) «x_shift» «y_shift» pitch ⌝ }
@@ -32,116 +39,140 @@ fn layout_of(fields: &[i32], x_shift: u32, y_shift: u32, pitch: usize) -> Layout
     }
 }
 
-// Tells the count of levels, then 13 offsets, widths and heights. Refusals 6, 7, 8, 15.
+// Tells the layout. Refusals 6, 7, 8, 15.
 #[no_mangle]
-pub extern "C" fn sill_level_regions(
+pub extern "C" fn sill_layout(
     fields: &[i32],
     x_shift: u32,
     y_shift: u32,
     pitch: usize,
-    regions: &mut [usize],
+    layout: &mut [usize],
 ) -> u32
-    ensures { λ r. ⌜ answer r (now (regions .exit)) ≡ regionsTells (layoutOf (now (fields .entry)) «x_shift» «y_shift» pitch) (now (regions .entry)) ⌝ }
+    ensures { λ r. ⌜ answer r (now (layout .exit)) ≡ layoutTells (layoutOf (now (fields .entry)) «x_shift» «y_shift» pitch) (now (layout .entry)) ⌝ }
 {
-    let laid = layout_of(fields, x_shift, y_shift, pitch).level_regions();
+    let laid = level_regions(layout_of(fields, x_shift, y_shift, pitch));
     let tested = laid.tested;
     match tested {
         Tested::Fine => {
-            let offsets = laid.offsets;
-            let widths = laid.widths;
-            let heights = laid.heights;
-            put_columns(regions, laid.count, &offsets, &widths, &heights)
+            let made = laid.layout;
+            put_layout(layout, made)
         }
-        Tested::Refused(f) => lowest(f, regions.len(), COLUMNS),
+        Tested::Refused(f) => lowest(f, layout.len(), LAYOUT),
     }
 }
 
-// Tells the written end. Refusals 6, 7, 8, 15.
+// Changes the layout in its own slice. Refusals 6, 32, 7, 8.
 #[no_mangle]
-pub extern "C" fn sill_written_end(
+pub extern "C" fn sill_layout_change(
     fields: &[i32],
+    layout: &mut [usize],
     x_shift: u32,
     y_shift: u32,
     pitch: usize,
-    end: &mut [usize],
 ) -> u32
-    ensures { λ r. ⌜ answer r (now (end .exit)) ≡ endTells (layoutOf (now (fields .entry)) «x_shift» «y_shift» pitch) (now (end .entry)) ⌝ }
+    ensures { λ r. ⌜ answer r (now (layout .exit)) ≡ changeTells (recordOf (now (fields .entry))) «x_shift» «y_shift» pitch (now (layout .entry)) ⌝ }
 {
-    match layout_of(fields, x_shift, y_shift, pitch).written_end() {
+    let opts = record_of(fields);
+    let laid = layout_from(layout).change(opts, x_shift, y_shift, pitch);
+    let tested = laid.tested;
+    match tested {
+        Tested::Fine => {
+            let made = laid.layout;
+            put_layout(layout, made)
+        }
+        Tested::Refused(f) => f.number(),
+    }
+}
+
+// Tells the written end. Refusals 6, 15, 32.
+#[no_mangle]
+pub extern "C" fn sill_written_end(fields: &[i32], layout: &[usize], end: &mut [usize]) -> u32
+    ensures { λ r. ⌜ answer r (now (end .exit)) ≡ endTells (recordOf (now (fields .entry))) (layoutFrom (now (layout .entry))) (now (end .entry)) ⌝ }
+{
+    let opts = record_of(fields);
+    match layout_from(layout).written_end(opts) {
         Ended::End(n) => put_sizes(end, &[n]),
         Ended::Refused(f) => lowest(f, end.len(), 1),
     }
 }
 
-// Tells the bytes that a build needs of spill, then of scratch. Refusals 6, 7, 8, 15.
+// Tells the bytes that a build needs of spill, then of scratch. Refusals 6, 15, 32.
 #[no_mangle]
-pub extern "C" fn sill_needs(
-    fields: &[i32],
-    x_shift: u32,
-    y_shift: u32,
-    pitch: usize,
-    needs: &mut [usize],
-) -> u32
-    ensures { λ r. ⌜ answer r (now (needs .exit)) ≡ needsTells (layoutOf (now (fields .entry)) «x_shift» «y_shift» pitch) (now (needs .entry)) ⌝ }
+pub extern "C" fn sill_needs(fields: &[i32], layout: &[usize], needs: &mut [usize]) -> u32
+    ensures { λ r. ⌜ answer r (now (needs .exit)) ≡ needsTells (recordOf (now (fields .entry))) (layoutFrom (now (layout .entry))) (now (needs .entry)) ⌝ }
 {
-    match layout_of(fields, x_shift, y_shift, pitch).needs() {
+    let opts = record_of(fields);
+    match layout_from(layout).needs(opts) {
         Needed::Needs(n) => put_sizes(needs, &need_numbers(n)),
         Needed::Refused(f) => lowest(f, needs.len(), NEEDS),
     }
 }
 
-// Refusals 6, 7, 8, 11.
+// Refusals 6, 32, 11.
 #[no_mangle]
-pub extern "C" fn sill_clear_margins(
-    frame: &mut [u8],
-    fields: &[i32],
-    x_shift: u32,
-    y_shift: u32,
-    pitch: usize,
-) -> u32
-    ensures { λ r. ⌜ answer r (now (frame .exit)) ≡ clearAnswer (layoutOf (now (fields .entry)) «x_shift» «y_shift» pitch) (now (frame .entry)) ⌝ }
+pub extern "C" fn sill_clear_margins(frame: &mut [u8], fields: &[i32], layout: &[usize]) -> u32
+    ensures { λ r. ⌜ answer r (now (frame .exit)) ≡ clearAnswer (recordOf (now (fields .entry))) (layoutFrom (now (layout .entry))) (now (frame .entry)) ⌝ }
 {
-    let layout = layout_of(fields, x_shift, y_shift, pitch);
-    number(clear_margins(frame, layout))
+    let opts = record_of(fields);
+    let stored = layout_from(layout);
+    number(clear_margins(frame, opts, stored))
 }
 
-// Tells the offset and the length of a row, in a frame of so many bytes. Refusals 6, 7, 8, 11, 15, 19.
+// Tells the offset and the length of a row, in a frame of so many bytes. Refusals 6, 32, 11, 19, and 15.
 #[no_mangle]
 pub extern "C" fn sill_row(
     frame: usize,
     fields: &[i32],
-    x_shift: u32,
-    y_shift: u32,
-    pitch: usize,
+    layout: &[usize],
     level: u32,
     plane: usize,
     y: usize,
     place: &mut [usize],
 ) -> u32
-    ensures { λ r. ⌜ answer r (now (place .exit)) ≡ rowTells (layoutOf (now (fields .entry)) «x_shift» «y_shift» pitch) frame level plane y (now (place .entry)) ⌝ }
+    ensures { λ r. ⌜ answer r (now (place .exit)) ≡ rowTells (recordOf (now (fields .entry))) (layoutFrom (now (layout .entry))) frame level plane y (now (place .entry)) ⌝ }
 {
-    let layout = layout_of(fields, x_shift, y_shift, pitch);
-    match row_place(layout, frame, level, plane, y) {
+    let opts = record_of(fields);
+    let stored = layout_from(layout);
+    match row_place(opts, stored, frame, level, plane, y) {
         Placed::At(run) => put_sizes(place, &[run.offset, run.length]),
         Placed::Refused(f) => lowest(f, place.len(), 2),
     }
 }
 
-// Refusals 6 to 13.
+// Tells the start, the width, the height and the pitch of a level's plane, in a frame of so many bytes. Refusals 6, 32, 11, 19, and 15.
+#[no_mangle]
+pub extern "C" fn sill_level_plane(
+    frame: usize,
+    fields: &[i32],
+    layout: &[usize],
+    level: u32,
+    plane: usize,
+    place: &mut [usize],
+) -> u32
+    ensures { λ r. ⌜ answer r (now (place .exit)) ≡ planeTells (recordOf (now (fields .entry))) (layoutFrom (now (layout .entry))) frame level plane (now (place .entry)) ⌝ }
+{
+    let opts = record_of(fields);
+    let stored = layout_from(layout);
+    match level_plane(opts, stored, frame, level, plane) {
+        Planed::At(p) => put_sizes(place, &plane_numbers(p)),
+        Planed::Refused(f) => lowest(f, place.len(), PLANE),
+    }
+}
+
+// Refusals 6, 32, 9 to 13.
 #[no_mangle]
 pub extern "C" fn sill_build_plane(
     frame: &mut [u8],
     spill: &mut [u8],
     scratch: &mut [u8],
     fields: &[i32],
-    x_shift: u32,
-    y_shift: u32,
-    pitch: usize,
+    layout: &[usize],
     src: &[u8],
     src_pitch: usize,
 ) -> u32
-    ensures { λ r. ⌜ BuildLeaves (layoutOf (now (fields .entry)) «x_shift» «y_shift» pitch) (now (src .entry)) «src_pitch» (now (frame .entry)) (now (spill .entry)) (now (scratch .entry)) r (now (frame .exit)) (now (spill .exit)) (now (scratch .exit)) ⌝ }
+    ensures { λ r. ⌜ BuildLeaves (recordOf (now (fields .entry))) (layoutFrom (now (layout .entry))) (now (src .entry)) «src_pitch» (now (frame .entry)) (now (spill .entry)) (now (scratch .entry)) r (now (frame .exit)) (now (spill .exit)) (now (scratch .exit)) ⌝ }
 {
-    let layout = layout_of(fields, x_shift, y_shift, pitch);
-    number(build_plane(frame, spill, scratch, layout, src, src_pitch))
+    let opts = record_of(fields);
+    let stored = layout_from(layout);
+    number(build_plane(frame, spill, scratch, opts, stored, src, src_pitch))
 }

@@ -1,4 +1,4 @@
-// The cases of the replays of frames: words of 4 bytes, the low byte first, of which the first 10 are a record's pel gpu down up full rc lean levels width height. Where they are about one plane, 4 more make it a layout: the shifts, the pitch (high and low word).
+// The cases of the replays of frames: words of 4 bytes, the low byte first, of which the first 10 are a record's pel gpu down up full rc lean levels width height. Where they are about one plane, 4 more make it a layout: the shifts, the pitch (high and low word). It is made first, by the program; where that is refused, the answer has its number.
 // A case that builds has the lengths of source, frame, spill and scratch, and then says whether the whole frame is asked for, whether the earlier bytes are made, and their seed; it ends with the source's bytes and, where they aren't made, the earlier bytes of frame, spill and scratch.
 // Made bytes: x becomes 48,271 * x modulo 2^31 - 1, from the seed on, and the byte is floor(x / 2^23); seed 0 makes zeros. Spill and scratch go on where the frame ends.
 // The answer to a build is the number (4 bytes), the sums of frame, spill and scratch after the call (8 bytes each) and, if asked for, the frame.
@@ -13,6 +13,8 @@ use libc::STDOUT_FILENO;
 use settings::numbers::from_bits;
 use settings::refusal::Tested;
 use settings::super_opts::SuperOpts;
+use stored::layout::Laid;
+use stored::layout::level_regions;
 
 pub fn word(head: &[u8], k: usize) -> u32
     requires { ⌜ 4 * k + 4 ≤ length (now head) ⌝ }
@@ -60,14 +62,23 @@ pub fn record_of(head: &[u8]) -> SuperOpts
     }
 }
 
-pub fn layout_of(head: &[u8]) -> Layout
+pub fn laid_of(head: &[u8]) -> Laid
     requires { ⌜ 56 ≤ length (now head) ⌝ }
 {
-    Layout {
+    level_regions(Layout {
         opts: record_of(head),
         x_shift: word(head, 10),
         y_shift: word(head, 11),
         pitch: long(head, 12),
+    })
+}
+
+// The number of a call by that layout. Where none was made the call was handed zeros, which it refuses, and the number is making's.
+pub fn after_making(laid: Laid, call: Tested) -> Tested {
+    let made = laid.tested;
+    match made {
+        Tested::Fine => call,
+        Tested::Refused(f) => Tested::Refused(f),
     }
 }
 

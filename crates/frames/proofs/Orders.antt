@@ -2,7 +2,7 @@
 use mathlib.Core.Path.{_≡_, refl, sym, ap, _∙_}
 use mathlib.Core.Bool.{false}
 use mathlib.Core.List.{List, _++_}
-use Prim.Native.Nat.{ℕ, suc, _≤_}
+use Prim.Native.Nat.{ℕ, zero, suc, _≤_}
 use native.Mathlib.Omega.{arith}
 use borrow.Author.Tests.{le-ltb}
 use contract.Lifetimes.{Lfts}
@@ -14,8 +14,12 @@ use Rattle.settings.proofs.Known.{given, number-of, value-done, value-refused}
 use Rattle.settings.proofs.Outcome.{Contract, both-ways, Promises}
 use Rattle.layouts.specs.declared.layout.Layout.{Layout}
 use Rattle.layouts.specs.Layout.{widthAt}
-use Rattle.layouts.specs.Refusals.{badPitch, lentNo, buildNo}
+use Rattle.layouts.specs.Refusals.{badPitch, layoutNo, lentNo, buildNo}
 use Rattle.layouts.specs.Room.{Ready}
+use Rattle.stored.specs.Layout.{viewOf, storedOf}
+use Rattle.stored.specs.Refusals.{storedNo, storedBuildNo}
+use Rattle.stored.proofs.Exact.{made-passes}
+use Rattle.stored.proofs.Numbers.{build-as-view}
 use Rattle.planes.specs.Build.{builtFrame, planeNo}
 use Rattle.frames.specs.Parts.{planeOf, lengthOf, startOf}
 use Rattle.frames.specs.Build.{three, buildFrameNo, partBytes, partBuilt, FrameLeaves, Lent, PlaneCall, ByCalls}
@@ -28,6 +32,18 @@ use Rattle.frames.proofs.build.build_frame.Reads as build-frame-reads
 fine : (q : Layout) {n sp len spill scratch : ℕ} → badPitch sp (widthAt q 0) ≡ false → Ready q n sp len spill scratch → buildNo q n sp len spill scratch ≡ 0
 unfolding buildNo lentNo
 fine q pitch r = rw (r .layout, pitch, le-ltb _ _ (r .source), le-ltb _ _ (r .end), le-ltb _ _ (r .spills), le-ltb _ _ (r .room)) refl
+
+-- by the layout that making gives, whose view is the plane's
+plane-view : (r : SuperOpts) (k : ℕ) → viewOf r (storedOf (planeOf r k)) ≡ planeOf r k
+plane-view r zero = refl
+plane-view r (suc k) = refl
+
+plane-passes : (r : SuperOpts) (k : ℕ) → layoutNo (planeOf r k) ≡ 0 → storedNo r (storedOf (planeOf r k)) ≡ 0
+plane-passes r zero = made-passes (planeOf r zero)
+plane-passes r (suc k) = made-passes (planeOf r (suc k))
+
+fine-stored : (r : SuperOpts) (k n sp len spill scratch : ℕ) → layoutNo (planeOf r k) ≡ 0 → storedBuildNo r (storedOf (planeOf r k)) n sp len spill scratch ≡ buildNo (planeOf r k) n sp len spill scratch
+fine-stored r k n sp len spill scratch e = build-as-view r (storedOf (planeOf r k)) n sp len spill scratch (plane-passes r k e) ∙ ap (λ (q : Layout). buildNo q n sp len spill scratch) (plane-view r k)
 
 -- what there is between the calls: the frame in these parts, spill and scratch of as many bytes
 record Reached (r : SuperOpts) (part : ℕ → List ℕ) (rest : List ℕ) (s x : ℕ) (l : Lent) : Type 0 where
@@ -51,8 +67,8 @@ module _ (r : SuperOpts) (src : ℕ → List ℕ) (sp : ℕ → ℕ) {len s x : 
       let P = partBytes r k (b .frame) in
       let long : length P ≡ lengthOf r k = part-long r k (b .frame) (omega (arith, start-mono r (suc k) (omega (arith, le)), cut-long (at .frame))) in
       let ready : Ready q (length (src k)) (sp k) (length P) (length (b .spill)) (length (b .scratch)) = rw (long, at .spill, at .scratch) (g .parts k le) in
-      let none : planeNo q (src k) (sp k) P (b .spill) (b .scratch) ≡ 0 = fine q (g .pitches k le) ready in
-      let whole : a .frame ≡ partBuilt r k (src k) (sp k) (b .frame) = c .joined ∙ ap (λ (z : List ℕ). take (startOf r k) (b .frame) ++ (z ++ drop (startOf r (suc k)) (b .frame))) (value-done (builtFrame q (src k) (sp k) P) P (c .leaves .0) none) in
+      let none : planeNo r (storedOf q) (src k) (sp k) P (b .spill) (b .scratch) ≡ 0 = fine-stored r k _ _ _ _ _ (ready .layout) ∙ fine q (g .pitches k le) ready in
+      let whole : a .frame ≡ partBuilt r k (src k) (sp k) (b .frame) = c .joined ∙ ap (λ (z : List ℕ). take (startOf r k) (b .frame) ++ (z ++ drop (startOf r (suc k)) (b .frame))) (value-done (builtFrame (viewOf r (storedOf q)) (src k) (sp k) P) P (c .leaves .0) none ∙ ap (λ (v : Layout). builtFrame v (src k) (sp k) P) (plane-view r k)) in
       let made = built-cut g src (at .frame) k le in
       record {
         number = number-of (c .leaves .0) ∙ none;

@@ -11,6 +11,7 @@ use Rattle.settings.specs.Numbers.{refuse, _then_}
 use Rattle.settings.specs.Answers.{answer, ifDone}
 use Rattle.layouts.specs.Layout.{widthAt, spillNeed, scratchNeed}
 use Rattle.layouts.specs.Refusals.{badPitch, sourceNeed}
+use Rattle.stored.specs.Layout.{storedOf}
 use Rattle.planes.specs.Build.{builtFrame, lentAfter, BuildLeaves}
 use Rattle.frames.specs.Parts.{planeOf, lengthOf, startOf, joinedEnd, planesNo}
 
@@ -68,10 +69,10 @@ pub record Lent : Type 0 where
   pub spill : List ℕ
   pub scratch : List ℕ
 
--- one of them, for plane k in its part of the frame: what it gives by its contract (`build-plane-contract` of `planes`), and the part put back
+-- one of them, for plane k in its part of the frame: what it gives by its contract (`build-plane-contract` of `planes`) with the layout that making gives, and the part put back
 pub record PlaneCall (r : SuperOpts) (src : ℕ → List ℕ) (sp : ℕ → ℕ) (k n : ℕ) (before after : Lent) : Type 0 where
   pub part : List ℕ
-  pub leaves : BuildLeaves (planeOf r k) (src k) (sp k) (partBytes r k (before .frame)) (before .spill) (before .scratch) n part (after .spill) (after .scratch)
+  pub leaves : BuildLeaves r (storedOf (planeOf r k)) (src k) (sp k) (partBytes r k (before .frame)) (before .spill) (before .scratch) n part (after .spill) (after .scratch)
   pub joined : after .frame ≡ take (startOf r k) (before .frame) ++ (part ++ drop (startOf r (suc k)) (before .frame))
 
 -- the planes 0, 1 and 2 in an order: each of them once

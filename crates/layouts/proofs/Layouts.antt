@@ -22,8 +22,8 @@ use Rattle.settings.proofs.Accepted.{within}
 use Rattle.layouts.specs.declared.layout.Layout.{Layout}
 use Rattle.layouts.specs.declared.rows.Run.{Run}
 use Rattle.layouts.specs.Layout.{levelsOf, writtenEnd, rowStart, regionAt, regionOr, noRegion, widthAt, heightAt, storedAt, bytesAt, offsetAt}
-use Rattle.layouts.specs.Refusals.{leastPitch, badPitch, layoutNo, frameNo, noRow, rowNo}
-use Rattle.layouts.specs.Answers.{endAnswer, noRun}
+use Rattle.layouts.specs.Refusals.{leastPitch, badPitch, layoutNo, noRow}
+use Rattle.layouts.specs.Answers.{noRun}
 use Rattle.layouts.specs.Room.{mostOffset}
 use Rattle.layouts.proofs.Choices.{cond-yes, cond-no}
 use Rattle.layouts.proofs.Loops.{row-in}
@@ -68,12 +68,7 @@ allowed q e =
       most = pitch .2;
     }
 
--- ---- what a call's number says
-pub end-given : (q : Layout) (n : ℕ) → answer 0 n ≡ endAnswer q → (layoutNo q ≡ 0) × (n ≡ writtenEnd q)
-end-given q n e =
-    let none : layoutNo q ≡ 0 = sym (ap (λ (a : Answer ℕ). a .no) e) in
-    (none, ap (λ (a : Answer ℕ). a .value) (e ∙ sym (given (layoutNo q) (writtenEnd q) 0 none)))
-
+-- ---- what comes after
 -- a refusal is kept by the tests after it
 pub then-kept : (f : Refusal) (m n : ℕ) → number f ≡ m → m ≡ (m then n)
 then-kept f m n e = sym e ∙ number-then f n ∙ ap (λ (k : ℕ). k then n) e
@@ -81,15 +76,6 @@ then-kept f m n e = sym e ∙ number-then f n ∙ ap (λ (k : ℕ). k then n) e
 pub record Framed (q : Layout) (len : ℕ) : Type 0 where
   pub layout : layoutNo q ≡ 0
   pub end : writtenEnd q ≤ len
-
-pub framed : (q : Layout) (len : ℕ) → frameNo q len ≡ 0 → Framed q len
-unfolding frameNo
-framed q len e =
-    let short = refuse (ltb len (writtenEnd q)) 11 in
-    record {
-      layout = then-first (layoutNo q) short e;
-      end = ltb-false len (writtenEnd q) (refuse-not (ltb len (writtenEnd q)) 10 (then-rest (layoutNo q) short e));
-    }
 
 -- a row that is there
 pub record There (q : Layout) (l k y : ℕ) : Type 0 where
@@ -112,15 +98,6 @@ there q l k y e =
 pub record Rowed (q : Layout) (len l k y : ℕ) : Type 0 where
   pub frame : Framed q len
   pub none : noRow q l k y ≡ false
-
-pub rowed : (q : Layout) (len l k y : ℕ) → rowNo q len l k y ≡ 0 → Rowed q len l k y
-unfolding rowNo
-rowed q len l k y e =
-    let last = refuse (noRow q l k y) 19 in
-    record {
-      frame = framed q len (then-first (frameNo q len) last e);
-      none = refuse-not (noRow q l k y) 18 (then-rest (frameNo q len) last e);
-    }
 
 -- ---- any shift
 pub shifted-out : (n s : ℕ) → n < 2 ^ 32 → 32 ≤ s → 0 ≡ n / 2 ^ s

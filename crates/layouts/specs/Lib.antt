@@ -3,9 +3,9 @@
 --     Layout     a plane's levels, and where they lie
 --     Descent    inner: a walk down the levels
 --     Margins    which levels are fused, and the margins of those that aren't
---     Refusals   the numbers that a call refuses with
+--     Refusals   the numbers that a layout and a build by it are refused with
 --     Room       inner: what no offset exceeds, and what a build is lent
---     Answers    the number and value of a layout's calls, and of each answer
+--     Answers    what a call tells of a layout
 -- What is proved of these is in proofs/.
 pub mod Storing
 pub mod Layout

@@ -1,5 +1,5 @@
--- Document 01, "Numbers a call can give": 6 to 13 and 19, in order, for each call.
--- First a layout's, by its pitch; then those of a frame, and of a row in it; last a build's, by what it is lent.
+-- Document 01, "Numbers a call can give": 6 to 13, and when 19, by what settles a layout.
+-- First a layout's, by its pitch; then whether a row is there; last a build's, by what it is lent.
 use Prim.Native.Nat.{ℕ, _+_, _*_, _-_}
 use mathlib.Core.Bool.{Bool, cond, _||_}
 use lib.Dec.{ltb, leb, eqb}
@@ -17,24 +17,16 @@ badPitch p least = ltb p 1 || ltb p least || ltb mostPitch p
 abbrev pub leastPitch : Layout → ℕ
 leastPitch q = cond (q .opts .full) (widthAt q 0) (widthAt q 1)
 
--- layout calls and the written end
+-- making a layout
 unfoldable pub layoutNo : Layout → ℕ
 layoutNo q =
     recordNo (q .opts)
     then refuse (ltb 1 (q .«x_shift») || ltb 1 (q .«y_shift»)) 7
     then refuse (badPitch (q .pitch) (leastPitch q)) 8
 
--- clearing margins, in a frame of len bytes
-unfoldable pub frameNo : Layout → ℕ → ℕ
-frameNo q len = layoutNo q then refuse (ltb len (writtenEnd q)) 11
-
 -- "no such level, plane or row is stored"
 abbrev pub noRow : Layout → ℕ → ℕ → ℕ → Bool
 noRow q l k y = leb (levelsOf q) l || leb (storedAt q l) k || leb (heightAt q l) y
-
--- a row
-unfoldable pub rowNo : Layout → ℕ → ℕ → ℕ → ℕ → ℕ
-rowNo q len l k y = frameNo q len then refuse (noRow q l k y) 19
 
 -- "(h - 1) * source pitch + w; 0 bytes suffice if w or h is 0"
 abbrev pub sourceNeed : Layout → ℕ → ℕ

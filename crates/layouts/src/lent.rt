@@ -1,16 +1,13 @@
-// What a build needs of the slices that it is lent: refusals 6 to 13.
+// What a build needs of the slices that it is lent: refusals 10 to 13.
 // First the needs; then the refusals.
 ghost use mathlib.Core.Path.{_≡_};
 ghost use Prim.Native.Nat.{_≤_};
 ghost use Rattle.settings.specs.Limits.{mostPitch};
 ghost use Rattle.settings.specs.Answers.{tested};
-ghost use Rattle.layouts.specs.Layout.{spillNeed, scratchNeed};
-ghost use Rattle.layouts.specs.Refusals.{layoutNo, sourceNeed, lentNo, buildNo};
+ghost use Rattle.layouts.specs.Layout.{writtenEnd, spillNeed, scratchNeed};
+ghost use Rattle.layouts.specs.Refusals.{layoutNo, sourceNeed, lentNo};
 use crate::layout::Layout;
-use crate::levels::bad_pitch;
 use crate::levels::height;
-use crate::levels::offset;
-use crate::levels::tested;
 use crate::levels::width;
 use settings::refusal::BadLent;
 use settings::refusal::Refusal;
@@ -51,22 +48,20 @@ pub fn scratch_need(layout: Layout) -> usize
     16 * (layout.pitch + 16)
 }
 
-// Refusals 10 to 13. Only an accepted layout and source pitch have needs that fit.
-fn lent_tested(
+// Refusals 10 to 13, by the lengths, where the last level ends at end. Only an accepted layout and source pitch have needs that fit.
+pub fn lent_tested(
     layout: Layout,
+    end: usize,
     src: usize,
     src_pitch: usize,
     frame: usize,
     spill: usize,
     scratch: usize,
 ) -> Tested
-    requires { ⌜ (layoutNo layout ≡ 0) × («src_pitch» ≤ mostPitch) ⌝ }
+    requires { ⌜ (layoutNo layout ≡ 0) × («src_pitch» ≤ mostPitch) × (end ≡ writtenEnd layout) ⌝ }
     ensures { λ r. ⌜ tested r ≡ lentNo layout src «src_pitch» frame spill scratch ⌝ }
 {
-    let opts = layout.opts;
-    let n = opts.naturals();
     let source = source_need(layout, src_pitch);
-    let end = offset(layout, n.levels);
     let beyond = spill_need(layout);
     let room = scratch_need(layout);
     Tested::Fine
@@ -74,25 +69,4 @@ fn lent_tested(
         .then_refuse(frame < end, Refusal::Lent(BadLent::Frame))
         .then_refuse(spill < beyond, Refusal::Lent(BadLent::Spill))
         .then_refuse(scratch < room, Refusal::Lent(BadLent::Scratch))
-}
-
-// Refusals 6 to 13, by the lengths of what is lent.
-pub fn build_tested(
-    layout: Layout,
-    src: usize,
-    src_pitch: usize,
-    frame: usize,
-    spill: usize,
-    scratch: usize,
-) -> Tested
-    ensures { λ r. ⌜ tested r ≡ buildNo layout src «src_pitch» frame spill scratch ⌝ }
-{
-    let t = tested(layout);
-    let Tested::Fine = t else {
-        return t;
-    };
-    if bad_pitch(src_pitch, width(layout, 0)) {
-        return Tested::Refused(Refusal::Lent(BadLent::SourcePitch));
-    }
-    lent_tested(layout, src, src_pitch, frame, spill, scratch)
 }

@@ -1,18 +1,15 @@
 // A plane's levels by their numbers: what the calls are made of.
-// A level's width, height and planes; refusals 6, 7 and 8; offsets; refusal 11; regions. Only an accepted layout has offsets that fit.
+// A level's width, height and planes; refusals 6, 7 and 8; offsets. Only an accepted layout has offsets that fit.
 ghost use mathlib.Core.Path.{_≡_};
 ghost use Prim.Native.Nat.{_/_, _^_, _≤_};
 ghost use Rattle.settings.specs.Limits.{mostLevels};
 ghost use Rattle.settings.specs.Answers.{tested};
-ghost use Rattle.layouts.specs.Layout.{widthAt, heightAt, storedAt, offsetAt, regionOr};
-ghost use Rattle.layouts.specs.Refusals.{leastPitch, badPitch, layoutNo, frameNo};
+ghost use Rattle.layouts.specs.Layout.{widthAt, heightAt, storedAt, offsetAt};
+ghost use Rattle.layouts.specs.Refusals.{leastPitch, badPitch, layoutNo};
 use crate::descent::Descent;
-use crate::layout::Ended;
 use crate::layout::Layout;
-use crate::layout::Region;
 use settings::limits::MOST_PITCH;
 use settings::refusal::BadLayout;
-use settings::refusal::BadLent;
 use settings::refusal::Refusal;
 use settings::refusal::Tested;
 use settings::super_opts::reduce_dim;
@@ -50,7 +47,7 @@ pub fn height(layout: Layout, level: u32) -> usize
 }
 
 // The planes that a level keeps.
-pub(crate) fn stored(layout: Layout, level: u32) -> usize
+pub fn stored(layout: Layout, level: u32) -> usize
     ensures { λ r. ⌜ r ≡ storedAt layout level ⌝ }
 {
     if level != 0 {
@@ -76,7 +73,7 @@ fn least_pitch(layout: Layout) -> usize
 }
 
 // Refusals 6, 7 and 8.
-pub(crate) fn tested(layout: Layout) -> Tested
+pub fn tested(layout: Layout) -> Tested
     ensures { λ r. ⌜ tested r ≡ layoutNo layout ⌝ }
 {
     let opts = layout.opts;
@@ -98,33 +95,4 @@ pub fn offset(layout: Layout, level: u32) -> usize
     ensures { λ r. ⌜ r ≡ offsetAt layout level ⌝ }
 {
     Descent::top(layout).down(layout, 0, level).offset
-}
-
-// Refusals 6, 7, 8 and 11.
-pub(crate) fn frame_tested(layout: Layout, len: usize) -> Tested
-    ensures { λ r. ⌜ tested r ≡ frameNo layout len ⌝ }
-{
-    match layout.written_end() {
-        Ended::End(end) => Tested::Fine.then_refuse(len < end, Refusal::Lent(BadLent::Frame)),
-        Ended::Refused(f) => Tested::Refused(f),
-    }
-}
-
-// Zeros where there is no such level.
-pub fn region(layout: Layout, level: u32) -> Region
-    requires { ⌜ layoutNo layout ≡ 0 ⌝ }
-    ensures { λ r. ⌜ r ≡ regionOr layout level ⌝ }
-{
-    let opts = layout.opts;
-    let n = opts.naturals();
-    if n.levels <= level {
-        return Region {
-            offset: 0,
-            width: 0,
-            height: 0,
-        };
-    }
-    Descent::top(layout)
-        .down(layout, 0, level)
-        .region(layout, level)
 }

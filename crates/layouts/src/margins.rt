@@ -1,21 +1,16 @@
 // The margins of a frame's levels, from the width to the pitch: open-svpflow's `clear_margins` and `cubic_fits`, their names kept.
-// First which levels are fused; then a level's margins; last the public call.
+// First which levels are fused; then a level's margins.
 ghost use mathlib.Core.Path.{_≡_};
 ghost use Prim.Native.Nat.{_+_, _*_, _-_, _≤_, _<_};
 ghost use lib.ListN.{length};
 ghost use Rattle.settings.specs.Limits.{mostSide, mostPitch};
-ghost use Rattle.settings.specs.Answers.{answer, tested};
 ghost use Rattle.layouts.specs.Layout.{levelsOf, offsetAt, regionAt, writtenEnd};
-ghost use Rattle.layouts.specs.Margins.{cubicFits, fusedAt, clearRows, clearLevel, cleared};
+ghost use Rattle.layouts.specs.Margins.{cubicFits, fusedAt, clearRows, clearLevel};
 ghost use Rattle.layouts.specs.Refusals.{layoutNo};
-ghost use Rattle.layouts.specs.Answers.{clearAnswer};
 ghost use Rattle.layouts.specs.Room.{mostOffset};
-use crate::descent::Descent;
 use crate::layout::Layout;
 use crate::layout::Region;
-use crate::levels::frame_tested;
 use filters::rows::zero_row;
-use settings::refusal::Tested;
 
 // Whether the fused cubic has room between its source, at base, and the frame's end.
 fn cubic_fits(base: usize, pitch: usize, target: Region, len: usize) -> bool
@@ -35,23 +30,13 @@ fn cubic_fits(base: usize, pitch: usize, target: Region, len: usize) -> bool
 }
 
 // Whether the fused cubic halves a later level, which lies at target, from the level at base, in a frame of len bytes.
-fn fuses(layout: Layout, level: u32, base: usize, target: Region, len: usize) -> bool
+pub fn fuses(layout: Layout, level: u32, base: usize, target: Region, len: usize) -> bool
     requires { ⌜ (layoutNo layout ≡ 0) × (level < levelsOf layout) × (base ≡ offsetAt layout (level - 1)) × (target ≡ regionAt layout level) ⌝ }
     ensures { λ r. ⌜ r ≡ fusedAt layout len level ⌝ }
 {
     let opts = layout.opts;
     let fits = cubic_fits(base, layout.pitch, target, len);
     (opts.scale_down == 4) & (opts.full | (level >= 2)) & fits
-}
-
-// The same by the level's number alone.
-pub fn is_fused(layout: Layout, level: u32, len: usize) -> bool
-    requires { ⌜ (layoutNo layout ≡ 0) × (1 ≤ level) × (level < levelsOf layout) ⌝ }
-    ensures { λ r. ⌜ r ≡ fusedAt layout len level ⌝ }
-{
-    let above = Descent::top(layout).down(layout, 0, level - 1);
-    let target = above.next(layout, level - 1).region(layout, level);
-    fuses(layout, level, above.offset, target, len)
 }
 
 fn clear_rows(frame: &mut [u8], target: Region, pitch: usize)
@@ -67,7 +52,7 @@ fn clear_rows(frame: &mut [u8], target: Region, pitch: usize)
     }
 }
 
-fn clear_level(frame: &mut [u8], layout: Layout, level: u32, base: usize, target: Region)
+pub fn clear_level(frame: &mut [u8], layout: Layout, level: u32, base: usize, target: Region)
     requires { ⌜ (layoutNo layout ≡ 0) × (1 ≤ level) × (level < levelsOf layout) × (writtenEnd layout ≤ length (now frame)) × (base ≡ offsetAt layout (level - 1)) × (target ≡ regionAt layout level) ⌝ }
     ensures { λ r. ⌜ now (frame .exit) ≡ clearLevel layout level (now (frame .entry)) ⌝ }
 {
@@ -75,32 +60,4 @@ fn clear_level(frame: &mut [u8], layout: Layout, level: u32, base: usize, target
         return;
     }
     clear_rows(frame, target, layout.pitch);
-}
-
-fn clear_levels(frame: &mut [u8], layout: Layout)
-    requires { ⌜ (layoutNo layout ≡ 0) × (writtenEnd layout ≤ length (now frame)) ⌝ }
-    ensures { λ r. ⌜ now (frame .exit) ≡ cleared layout (now (frame .entry)) ⌝ }
-{
-    let opts = layout.opts;
-    let n = opts.naturals();
-    let levels = n.levels;
-    let mut above = Descent::top(layout);
-    for level in 1..levels {
-        let at = above.next(layout, level - 1);
-        let target = at.region(layout, level);
-        clear_level(frame, layout, level, above.offset, target);
-        above = at;
-    }
-}
-
-// Zeroes the margins of later levels that aren't fused. Refusals 6, 7, 8 and 11.
-pub fn clear_margins(frame: &mut [u8], layout: Layout) -> Tested
-    ensures { λ r. ⌜ answer (tested r) (now (frame .exit)) ≡ clearAnswer layout (now (frame .entry)) ⌝ }
-{
-    let t = frame_tested(layout, frame.len());
-    let Tested::Fine = t else {
-        return t;
-    };
-    clear_levels(frame, layout);
-    Tested::Fine
 }

@@ -1,23 +1,19 @@
-// A row of a frame: where it lies, the number that says whether there is one, and its bytes, which are the caller's own.
+// A row of a frame: where it lies, or that there is none, and its bytes, which are the caller's own.
 ghost use mathlib.Core.Path.{_≡_};
 ghost use Prim.Native.Nat.{_+_, _≤_, _<_};
 ghost use lib.ListN.{length, take, drop};
 ghost use denote.Ref.{ptr};
 ghost use Rattle.settings.specs.Numbers.{refuse};
-ghost use Rattle.settings.specs.Answers.{tested, ifDone};
+ghost use Rattle.settings.specs.Answers.{ifDone};
 ghost use Rattle.layouts.specs.Storing.{partAt};
-ghost use Rattle.layouts.specs.Layout.{levelsOf};
-ghost use Rattle.layouts.specs.Descent.{reached};
-ghost use Rattle.layouts.specs.Refusals.{layoutNo, noRow, rowNo};
-ghost use Rattle.layouts.specs.Answers.{placed, runOf, noRun, placeAnswer, rowPart, rowFrom};
+ghost use Rattle.layouts.specs.Layout.{levelsOf, regionAt};
+ghost use Rattle.layouts.specs.Refusals.{layoutNo, noRow};
+ghost use Rattle.layouts.specs.Answers.{placed, runOf, noRun};
 use crate::descent::Descent;
 use crate::layout::Layout;
-use crate::levels::offset;
+use crate::layout::Region;
 use crate::levels::stored;
-use crate::levels::tested;
-use settings::refusal::BadLent;
 use settings::refusal::Refusal;
-use settings::refusal::Tested;
 
 // A run of bytes in a frame.
 pub struct Run {
@@ -30,18 +26,17 @@ pub enum Placed {
     Refused(Refusal),
 }
 
-// Row y of a plane of a level that a walk has reached. Refusal 19.
-fn placed_at(at: Descent, layout: Layout, level: u32, plane: usize, y: usize) -> Placed
-    requires { ⌜ (layoutNo layout ≡ 0) × (level < levelsOf layout) × (at ≡ reached layout level) ⌝ }
+// Row y of a plane of a level that lies at target. Refusal 19.
+pub fn placed_at(target: Region, layout: Layout, level: u32, plane: usize, y: usize) -> Placed
+    requires { ⌜ (layoutNo layout ≡ 0) × (level < levelsOf layout) × (target ≡ regionAt layout level) ⌝ }
     ensures { λ r. ⌜ placed r ≡ ifDone (refuse (noRow layout level plane y) 19) (runOf layout level plane y) noRun ⌝ }
 {
-    let r = at.region(layout, level);
-    if (stored(layout, level) <= plane) | (r.height <= y) {
+    if (stored(layout, level) <= plane) | (target.height <= y) {
         return Placed::Refused(Refusal::NoRow);
     }
     Placed::At(Run {
-        offset: r.offset + (plane * r.height + y) * layout.pitch,
-        length: r.width,
+        offset: target.offset + (plane * target.height + y) * layout.pitch,
+        length: target.width,
     })
 }
 
@@ -56,49 +51,8 @@ pub fn row_in(layout: Layout, level: u32, plane: usize, y: usize) -> Placed
         return Placed::Refused(Refusal::NoRow);
     }
     let at = Descent::top(layout).down(layout, 0, level);
-    placed_at(at, layout, level, plane, y)
-}
-
-// In a frame of len bytes: the walk to the level goes on to where the last one ends. Refusals 11 and 19.
-fn row_within(layout: Layout, len: usize, level: u32, plane: usize, y: usize) -> Placed
-    requires { ⌜ layoutNo layout ≡ 0 ⌝ }
-    ensures { λ r. ⌜ placed r ≡ placeAnswer layout len level plane y ⌝ }
-{
-    let opts = layout.opts;
-    let n = opts.naturals();
-    let levels = n.levels;
-    if levels <= level {
-        if len < offset(layout, levels) {
-            return Placed::Refused(Refusal::Lent(BadLent::Frame));
-        }
-        return Placed::Refused(Refusal::NoRow);
-    }
-    let at = Descent::top(layout).down(layout, 0, level);
-    let last = at.down(layout, level, levels);
-    if len < last.offset {
-        return Placed::Refused(Refusal::Lent(BadLent::Frame));
-    }
-    placed_at(at, layout, level, plane, y)
-}
-
-// Where row y of a plane of a level lies, in a frame of len bytes. Refusals 6, 7, 8, 11 and 19.
-pub fn row_place(layout: Layout, len: usize, level: u32, plane: usize, y: usize) -> Placed
-    ensures { λ r. ⌜ placed r ≡ placeAnswer layout len level plane y ⌝ }
-{
-    match tested(layout) {
-        Tested::Fine => row_within(layout, len, level, plane, y),
-        Tested::Refused(f) => Placed::Refused(f),
-    }
-}
-
-// What that row is refused with: 6, 7, 8, 11 or 19.
-pub fn row_tested(layout: Layout, len: usize, level: u32, plane: usize, y: usize) -> Tested
-    ensures { λ r. ⌜ tested r ≡ rowNo layout len level plane y ⌝ }
-{
-    match row_place(layout, len, level, plane, y) {
-        Placed::At(_) => Tested::Fine,
-        Placed::Refused(f) => Tested::Refused(f),
-    }
+    let target = at.region(layout, level);
+    placed_at(target, layout, level, plane, y)
 }
 
 // The frame's own bytes where an answer says that they lie, none where it is refused.
@@ -114,12 +68,4 @@ pub fn hand_out(frame: &[u8], at: Placed) -> &[u8]
         }
         Placed::Refused(_) => &frame[..0],
     }
-}
-
-// Row y of a plane of a level: a part of the frame, empty when refused.
-pub fn row(frame: &[u8], layout: Layout, level: u32, plane: usize, y: usize) -> &[u8]
-    ensures { λ r. ⌜ (now r ≡ rowPart layout (now (frame .entry)) level plane y) × (ptr r ≡ partAt (frame .entry) (rowFrom layout (length (now (frame .entry))) level plane y)) ⌝ }
-{
-    let at = row_place(layout, frame.len(), level, plane, y);
-    hand_out(frame, at)
 }

@@ -10,6 +10,7 @@ use lib.Dec.{ltb, eqb}
 use lib.ListN.{length, take, replicate}
 use lib.Seq.{take-at}
 use borrow.Author.Tests.{ltb-false, ne-eqb}
+use Rattle.settings.specs.declared.super_opts.SuperOpts.{SuperOpts}
 use Rattle.settings.specs.Numbers.{refuse, _then_, toNat}
 use Rattle.settings.specs.Check.{pelOf}
 use Rattle.settings.specs.declared.refusal.Tested.{Tested}
@@ -25,6 +26,11 @@ use Rattle.layouts.specs.declared.layout.Layout.{Layout}
 use Rattle.layouts.specs.Layout.{levelsOf, widthAt, heightAt, storedAt, writtenEnd, spillNeed, scratchNeed}
 use Rattle.layouts.specs.Refusals.{badPitch, sourceNeed, layoutNo, lentNo, buildNo}
 use Rattle.layouts.specs.Room.{Ready}
+use Rattle.stored.specs.declared.layout.StoredLayout.{StoredLayout}
+use Rattle.stored.specs.Layout.{viewOf, keeps}
+use Rattle.stored.specs.Refusals.{storedBuildNo}
+use Rattle.stored.proofs.Exact.{passed}
+use Rattle.stored.proofs.Numbers.{build-stored, build-as-view}
 use Rattle.layouts.proofs.Choices.{cond-yes, cond-no}
 use Rattle.layouts.proofs.Loops.{row-in}
 use Rattle.layouts.proofs.Known.{left-known}
@@ -82,6 +88,12 @@ ready q n sp len spill scratch e =
       spills = f .spills;
       room = f .room;
     }
+
+-- of a build by a stored layout
+pub ready-stored : (r : SuperOpts) (s : StoredLayout) (n sp len spill scratch : ℕ) → storedBuildNo r s n sp len spill scratch ≡ 0 → Ready (viewOf r s) n sp len spill scratch × (keeps (viewOf r s) s ≡ true)
+ready-stored r s n sp len spill scratch e =
+    let none = build-stored r s n sp len spill scratch e in
+    (ready (viewOf r s) n sp len spill scratch (sym (build-as-view r s n sp len spill scratch none) ∙ e), passed r s none .same)
 
 -- other slices of the same or enough bytes
 pub ready-lent : {q : Layout} {n sp len spill scratch len' spill' scratch' : ℕ} → Ready q n sp len spill scratch → len' ≡ len → spillNeed q ≤ spill' → scratchNeed q ≤ scratch' → Ready q n sp len' spill' scratch'

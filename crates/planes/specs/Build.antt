@@ -5,6 +5,7 @@ use mathlib.Core.Bool.{Bool, true, cond, _&&_, _||_}
 use mathlib.Core.List.{List, _++_}
 use lib.Dec.{leb, ltb, eqb}
 use lib.ListN.{length, take, replicate}
+use Rattle.settings.specs.declared.super_opts.SuperOpts.{SuperOpts}
 use Rattle.settings.specs.Numbers.{toNat}
 use Rattle.settings.specs.Check.{pelOf}
 use Rattle.settings.specs.Answers.{Answer, answer, ifDone}
@@ -17,7 +18,9 @@ use Rattle.layouts.specs.declared.layout.Layout.{Layout}
 use Rattle.layouts.specs.Storing.{put, steps}
 use Rattle.layouts.specs.Layout.{levelsOf, widthAt, heightAt, offsetAt, regionAt, spillNeed}
 use Rattle.layouts.specs.Margins.{fusedAt}
-use Rattle.layouts.specs.Refusals.{buildNo}
+use Rattle.stored.specs.declared.layout.StoredLayout.{StoredLayout}
+use Rattle.stored.specs.Layout.{viewOf}
+use Rattle.stored.specs.Refusals.{storedBuildNo}
 use Rattle.builder.specs.declared.refining.Interp.{Interp}
 use Rattle.builder.specs.Canvas.{fetch, _▷_}
 use Rattle.builder.specs.Halving.{fromStored, fused, fromSource}
@@ -76,8 +79,8 @@ builtFrame = frameBy true
 
 -- ---- its number and value
 -- building, by what it is lent
-abbrev pub planeNo : Layout → List ℕ → ℕ → List ℕ → List ℕ → List ℕ → ℕ
-planeNo q src sp frame spill scratch = buildNo q (length src) sp (length frame) (length spill) (length scratch)
+abbrev pub planeNo : SuperOpts → StoredLayout → List ℕ → ℕ → List ℕ → List ℕ → List ℕ → ℕ
+planeNo r s src sp frame spill scratch = storedBuildNo r s (length src) sp (length frame) (length spill) (length scratch)
 
 -- by its number, with the frame that it leaves
 abbrev pub answerBy : Bool → ℕ → Layout → List ℕ → ℕ → List ℕ → Answer (List ℕ)
@@ -90,11 +93,11 @@ buildAnswer = answerBy true
 abbrev pub lentAfter : ℕ → List ℕ → Answer (List ℕ)
 lentAfter n lent = ifDone n (replicate (length lent) 0) lent
 
--- what a build of number k leaves in the frame, in spill and in scratch
-abbrev pub LeavesBy : Bool → Layout → List ℕ → ℕ → List ℕ → List ℕ → List ℕ → ℕ → List ℕ → List ℕ → List ℕ → Type 0
-LeavesBy fuse q src sp frame spill scratch k frame' spill' scratch' =
-    let n = planeNo q src sp frame spill scratch in
-    (answer k frame' ≡ answerBy fuse n q src sp frame) × (answer k spill' ≡ lentAfter n spill) × (answer k scratch' ≡ lentAfter n scratch)
+-- what a build of number k, of the record r and the stored layout s, leaves in the frame, in spill and in scratch
+abbrev pub LeavesBy : Bool → SuperOpts → StoredLayout → List ℕ → ℕ → List ℕ → List ℕ → List ℕ → ℕ → List ℕ → List ℕ → List ℕ → Type 0
+LeavesBy fuse r s src sp frame spill scratch k frame' spill' scratch' =
+    let n = planeNo r s src sp frame spill scratch in
+    (answer k frame' ≡ answerBy fuse n (viewOf r s) src sp frame) × (answer k spill' ≡ lentAfter n spill) × (answer k scratch' ≡ lentAfter n scratch)
 
-abbrev pub BuildLeaves : Layout → List ℕ → ℕ → List ℕ → List ℕ → List ℕ → ℕ → List ℕ → List ℕ → List ℕ → Type 0
+abbrev pub BuildLeaves : SuperOpts → StoredLayout → List ℕ → ℕ → List ℕ → List ℕ → List ℕ → ℕ → List ℕ → List ℕ → List ℕ → Type 0
 BuildLeaves = LeavesBy true

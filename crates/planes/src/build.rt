@@ -1,7 +1,7 @@
 // A plane of a frame, built whole: open-svpflow's `build_plane`.
 // First level 0; then the refining of it; then all stages; last the call with a switch for the fused path, and the public one.
 ghost use mathlib.Core.Path.{_≡_};
-ghost use mathlib.Core.Bool.{cond};
+ghost use mathlib.Core.Bool.{true, cond};
 ghost use mathlib.Core.List.{_++_};
 ghost use Prim.Native.Nat.{_≤_};
 ghost use lib.ListN.{length};
@@ -9,6 +9,7 @@ ghost use Rattle.settings.specs.Answers.{tested};
 ghost use Rattle.layouts.specs.Layout.{levelsOf, writtenEnd, spillNeed, scratchNeed};
 ghost use Rattle.layouts.specs.Refusals.{layoutNo};
 ghost use Rattle.layouts.specs.Room.{Ready};
+ghost use Rattle.stored.specs.Layout.{keeps};
 ghost use Rattle.planes.specs.Build.{copied, refined, builtBy, frameBy, LeavesBy, BuildLeaves};
 use crate::later::reduce_levels;
 use crate::level0::source_row;
@@ -18,11 +19,13 @@ use builder::refining::refine;
 use filters::half_pel::HalfPel;
 use filters::rows::zero_row;
 use layouts::layout::Layout;
-use layouts::lent::build_tested;
 use layouts::lent::spill_need;
 use layouts::levels::height;
 use layouts::levels::width;
 use settings::refusal::Tested;
+use settings::super_opts::SuperOpts;
+use stored::layout::StoredLayout;
+use stored::lent::build_tested;
 
 // Level 0, where it is stored: the source plane's rows, src_pitch apart.
 fn copy_rows(frame: &mut [u8], layout: Layout, src: &[u8], src_pitch: usize)
@@ -66,10 +69,11 @@ fn build_levels(
     spill: &mut [u8],
     scratch: &mut [u8],
     layout: Layout,
+    stored: StoredLayout,
     src: &[u8],
     src_pitch: usize,
 )
-    requires { ⌜ Ready layout (length (now src)) «src_pitch» (length (now frame)) (length (now spill)) (length (now scratch)) ⌝ }
+    requires { ⌜ Ready layout (length (now src)) «src_pitch» (length (now frame)) (length (now spill)) (length (now scratch)) × (keeps layout stored ≡ true) ⌝ }
     ensures { λ r. ⌜ now (frame .exit) ++ now (spill .exit) ≡ builtBy fuse layout (now (src .entry)) «src_pitch» (length (now (frame .entry))) (now (frame .entry) ++ now (spill .entry)) ⌝ }
 {
     let opts = layout.opts;
@@ -78,7 +82,7 @@ fn build_levels(
         return;
     }
     copy_rows(frame, layout, src, src_pitch);
-    reduce_levels(fuse, frame, spill, scratch, layout, src, src_pitch);
+    reduce_levels(fuse, frame, spill, scratch, layout, stored, src, src_pitch);
     refine_planes(frame, spill, scratch, layout);
 }
 
@@ -89,16 +93,17 @@ pub fn build_spilled(
     spill: &mut [u8],
     scratch: &mut [u8],
     layout: Layout,
+    stored: StoredLayout,
     src: &[u8],
     src_pitch: usize,
 )
-    requires { ⌜ Ready layout (length (now src)) «src_pitch» (length (now frame)) (length (now spill)) (length (now scratch)) ⌝ }
+    requires { ⌜ Ready layout (length (now src)) «src_pitch» (length (now frame)) (length (now spill)) (length (now scratch)) × (keeps layout stored ≡ true) ⌝ }
     ensures { λ r. ⌜ now (frame .exit) ≡ frameBy fuse layout (now (src .entry)) «src_pitch» (now (frame .entry)) ⌝ }
 {
     let need = spill_need(layout);
     let beyond = &mut spill[..need];
     zero_row(beyond);
-    build_levels(fuse, frame, beyond, scratch, layout, src, src_pitch);
+    build_levels(fuse, frame, beyond, scratch, layout, stored, src, src_pitch);
 }
 
 // For a site that turned the fused path off and asks what it may compare: the comparison with the Rust runs both with the path off.
@@ -107,13 +112,15 @@ pub fn build_plane_by(
     frame: &mut [u8],
     spill: &mut [u8],
     scratch: &mut [u8],
-    layout: Layout,
+    opts: SuperOpts,
+    layout: StoredLayout,
     src: &[u8],
     src_pitch: usize,
 ) -> Tested
-    ensures { λ r. ⌜ LeavesBy fuse layout (now (src .entry)) «src_pitch» (now (frame .entry)) (now (spill .entry)) (now (scratch .entry)) (tested r) (now (frame .exit)) (now (spill .exit)) (now (scratch .exit)) ⌝ }
+    ensures { λ r. ⌜ LeavesBy fuse opts layout (now (src .entry)) «src_pitch» (now (frame .entry)) (now (spill .entry)) (now (scratch .entry)) (tested r) (now (frame .exit)) (now (spill .exit)) (now (scratch .exit)) ⌝ }
 {
     let t = build_tested(
+        opts,
         layout,
         src.len(),
         src_pitch,
@@ -124,22 +131,24 @@ pub fn build_plane_by(
     let Tested::Fine = t else {
         return t;
     };
-    build_spilled(fuse, frame, spill, scratch, layout, src, src_pitch);
+    let view = layout.view(opts);
+    build_spilled(fuse, frame, spill, scratch, view, layout, src, src_pitch);
     zero_row(spill);
     zero_row(scratch);
     Tested::Fine
 }
 
-// Builds a plane's levels from the source plane, its rows src_pitch apart; what was lent for it holds zeros after. Refusals 6 to 13.
+// Builds a plane's levels from the source plane, its rows src_pitch apart; what was lent for it holds zeros after. Refusals 6, 32, 9 to 13.
 pub fn build_plane(
     frame: &mut [u8],
     spill: &mut [u8],
     scratch: &mut [u8],
-    layout: Layout,
+    opts: SuperOpts,
+    layout: StoredLayout,
     src: &[u8],
     src_pitch: usize,
 ) -> Tested
-    ensures { λ r. ⌜ BuildLeaves layout (now (src .entry)) «src_pitch» (now (frame .entry)) (now (spill .entry)) (now (scratch .entry)) (tested r) (now (frame .exit)) (now (spill .exit)) (now (scratch .exit)) ⌝ }
+    ensures { λ r. ⌜ BuildLeaves opts layout (now (src .entry)) «src_pitch» (now (frame .entry)) (now (spill .entry)) (now (scratch .entry)) (tested r) (now (frame .exit)) (now (spill .exit)) (now (scratch .exit)) ⌝ }
 {
-    build_plane_by(true, frame, spill, scratch, layout, src, src_pitch)
+    build_plane_by(true, frame, spill, scratch, opts, layout, src, src_pitch)
 }

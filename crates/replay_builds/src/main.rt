@@ -1,17 +1,20 @@
 // Answers cases about whole builds, from standard input to standard output: what the comparison with the Rust runs, and the gate on a list of the Rust's own answers, with its fused path off where a case says so.
 // A case is 24 words and bytes, as `frame_cases` has them: the 14 words of a layout, the source pitch (high and low word), the four lengths, what is asked for and the seed, and whether the fused path is off; then the bytes.
+use frame_cases::after_making;
 use frame_cases::earlier;
-use frame_cases::layout_of;
+use frame_cases::laid_of;
 use frame_cases::long;
 use frame_cases::put_bytes;
 use frame_cases::put_tested;
 use frame_cases::read_whole;
+use frame_cases::record_of;
 use frame_cases::too_long;
 use frame_cases::word;
 use libc::STDIN_FILENO;
 use planes::build::build_plane;
 use planes::build::build_plane_by;
 use settings::refusal::Tested;
+use stored::layout::StoredLayout;
 
 // The largest: a plane of 1920x1080 with all its levels, and the scratch of the widest pitch.
 fn main() {
@@ -97,21 +100,35 @@ fn answer_build(
     if !earlier(frame, spill, scratch, made, word(head, 22)) {
         return false;
     }
-    put_tested(build(head, source, frame, spill, scratch));
+    let laid = laid_of(head);
+    put_tested(after_making(
+        laid,
+        build(head, laid.layout, source, frame, spill, scratch),
+    ));
     put_bytes(frame, spill, scratch, word(head, 20) != 0)
 }
 
 fn build(
     head: &[u8; 96],
+    layout: StoredLayout,
     source: &[u8],
     frame: &mut [u8],
     spill: &mut [u8],
     scratch: &mut [u8],
 ) -> Tested {
-    let layout = layout_of(head);
+    let opts = record_of(head);
     let src_pitch = long(head, 14);
     if word(head, 23) != 0 {
-        return build_plane_by(false, frame, spill, scratch, layout, source, src_pitch);
+        return build_plane_by(
+            false,
+            frame,
+            spill,
+            scratch,
+            opts,
+            layout,
+            source,
+            src_pitch,
+        );
     }
-    build_plane(frame, spill, scratch, layout, source, src_pitch)
+    build_plane(frame, spill, scratch, opts, layout, source, src_pitch)
 }

@@ -1,19 +1,21 @@
 // Answers cases about layouts, a line each, from standard input to standard output: what the comparison with the Rust runs, and the gate on a list of the Rust's own answers.
 // A line is words of 8 hexadecimal digits (an integer as two's complement), parted by single spaces; a number of 64 bits is two words, the high one first.
 // In: the record's pel gpu down up full rc lean levels width height, the shifts, the pitch (two words).
-// Out: the layout's number, the count of levels, for each of 13 levels its offset (two words), width and height; the number of the written end and the end (two words).
+// Out: the layout's number, the count of levels, for each of 13 levels its offset (two words), width and height; the number of the written end and the end (two words); where no layout is made, the number is the layout's.
 ghost use Prim.Native.Nat.{_<_};
 use hex_lines::bool_at;
 use hex_lines::int_at;
 use hex_lines::put_word;
 use hex_lines::word_at;
-use layouts::layout::Ended;
-use layouts::layout::Laid;
 use layouts::layout::Layout;
 use libc::STDIN_FILENO;
 use libc::STDOUT_FILENO;
 use settings::refusal::Tested;
 use settings::super_opts::SuperOpts;
+use stored::layout::Ended;
+use stored::layout::Laid;
+use stored::layout::StoredLayout;
+use stored::layout::level_regions;
 
 fn main() {
     let mut lines: u32 = 0;
@@ -32,8 +34,9 @@ fn answer_one() -> bool {
     }
     let mut out = [b' '; 513];
     let layout = layout_at(&case);
-    put_laid(&mut out, layout.level_regions());
-    put_end(&mut out, layout.written_end());
+    let laid = level_regions(layout);
+    put_laid(&mut out, laid);
+    put_end(&mut out, written_end(laid, layout.opts));
     end_line(&mut out);
     write_line(&out)
 }
@@ -73,14 +76,15 @@ fn put_laid(out: &mut [u8; 513], laid: Laid) {
         Tested::Fine => put_word(out, 0, 0),
         Tested::Refused(f) => put_word(out, 0, f.number()),
     }
-    put_wide(out, 1, laid.count);
-    put_regions(out, laid);
+    let layout = laid.layout;
+    put_wide(out, 1, layout.count);
+    put_regions(out, layout);
 }
 
-fn put_regions(out: &mut [u8; 513], laid: Laid) {
-    let offsets = laid.offsets;
-    let widths = laid.widths;
-    let heights = laid.heights;
+fn put_regions(out: &mut [u8; 513], layout: StoredLayout) {
+    let offsets = layout.offsets;
+    let widths = layout.widths;
+    let heights = layout.heights;
     for i in 0..13usize {
         put_region(out, i, offsets[i], widths[i], heights[i]);
     }
@@ -92,6 +96,16 @@ fn put_region(out: &mut [u8; 513], i: usize, offset: usize, width: usize, height
     put_two(out, 2 + 4 * i, offset);
     put_wide(out, 4 + 4 * i, width);
     put_wide(out, 5 + 4 * i, height);
+}
+
+// Where no layout is made there is none to ask: the number is making's.
+fn written_end(laid: Laid, opts: SuperOpts) -> Ended {
+    let tested = laid.tested;
+    let layout = laid.layout;
+    match tested {
+        Tested::Fine => layout.written_end(opts),
+        Tested::Refused(f) => Ended::Refused(f),
+    }
 }
 
 fn put_end(out: &mut [u8; 513], end: Ended) {

@@ -1,15 +1,18 @@
 // Answers cases about a frame's margins and rows, from standard input to standard output: what the comparison with the Rust runs, and the gate on a list of the Rust's own answers.
 // A case is 20 words and a frame: the 14 of a layout (see `frame_cases`), the frame's length, then level, plane and row, the kind and a zero.
 // Kind 0, clear the margins: the answer is the number (4 bytes) and the frame. Kind 1, a row: the number, the row's length (4 bytes each) and the row.
-use frame_cases::layout_of;
+use frame_cases::after_making;
+use frame_cases::laid_of;
 use frame_cases::put_number;
 use frame_cases::put_tested;
+use frame_cases::record_of;
 use frame_cases::word;
-use layouts::margins::clear_margins;
-use layouts::rows::row;
-use layouts::rows::row_tested;
 use libc::STDIN_FILENO;
 use libc::STDOUT_FILENO;
+use stored::layout::Laid;
+use stored::margins::clear_margins;
+use stored::rows::row;
+use stored::rows::row_tested;
 
 fn main() {
     let mut frame = [0u8; 131072];
@@ -43,16 +46,22 @@ fn answer_frame(head: &[u8; 80], frame: &mut [u8]) -> bool {
     if io::read_full(STDIN_FILENO, frame) < frame.len() {
         return false;
     }
-    let layout = layout_of(head);
+    let laid = laid_of(head);
     if word(head, 18) == 0 {
-        put_tested(clear_margins(frame, layout));
+        put_tested(after_making(laid, clear_margins(frame, record_of(head), laid.layout)));
         return io::write_all(STDOUT_FILENO, frame);
     }
+    answer_row(head, laid, frame)
+}
+
+fn answer_row(head: &[u8; 80], laid: Laid, frame: &[u8]) -> bool {
+    let opts = record_of(head);
+    let layout = laid.layout;
     let level = word(head, 15);
     let plane = word(head, 16) as usize;
     let y = word(head, 17) as usize;
-    put_tested(row_tested(layout, frame.len(), level, plane, y));
-    put_row(row(frame, layout, level, plane, y))
+    put_tested(after_making(laid, row_tested(opts, layout, frame.len(), level, plane, y)));
+    put_row(row(frame, opts, layout, level, plane, y))
 }
 
 fn put_row(row: &[u8]) -> bool {

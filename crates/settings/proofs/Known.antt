@@ -9,7 +9,7 @@ use lib.IntN.{pos}
 use Rattle.settings.specs.declared.refusal.Refusal.{Refusal}
 use Rattle.settings.specs.declared.refusal.Refusal.the-variants.{Setting, NoRecord, Layout, Lent, Levels, Longhand, NoRow, Word as BadCode, Planes}
 use Rattle.settings.specs.declared.refusal.BadSetting.the-variants.{Pel, Gpu, Finest, Lean, Side}
-use Rattle.settings.specs.declared.refusal.BadLayout.the-variants.{Shift, Pitch}
+use Rattle.settings.specs.declared.refusal.BadLayout.the-variants.{Shift, Pitch, Stored}
 use Rattle.settings.specs.declared.refusal.BadLent.the-variants.{SourcePitch, Source, Frame, Spill, Scratch}
 use Rattle.settings.specs.declared.refusal.BadLonghand.the-variants.{Short, Length, Contents}
 use Rattle.settings.specs.declared.refusal.BadWord.the-variants.{NoCode, Halving, Upscale}
@@ -30,7 +30,7 @@ use Rattle.settings.specs.Answers.{Answer, answer, ifDone, number, teste
 -- ---- a refusal's number tells which refusal it is, and is not 0
 -- the refusal of a number
 abbrev pub refusalOf : ℕ → Refusal
-refusalOf n = cond (eqb n 1) (Setting Pel) (cond (eqb n 2) (Setting Gpu) (cond (eqb n 3) (Setting Finest) (cond (eqb n 4) (Setting Lean) (cond (eqb n 5) (Setting Side) (cond (eqb n 6) NoRecord (cond (eqb n 7) (Layout Shift) (cond (eqb n 8) (Layout Pitch) (cond (eqb n 9) (Lent SourcePitch) (cond (eqb n 10) (Lent Source) (cond (eqb n 11) (Lent Frame) (cond (eqb n 12) (Lent Spill) (cond (eqb n 13) (Lent Scratch) (cond (eqb n 14) Levels (cond (eqb n 15) (Longhand Short) (cond (eqb n 17) (Longhand Length) (cond (eqb n 18) (Longhand Contents) (cond (eqb n 19) NoRow (cond (eqb n 20) (BadCode NoCode) (cond (eqb n 21) (BadCode Halving) (cond (eqb n 22) (BadCode Upscale) (cond (eqb n 23) (Planes ShortSide) (Planes NotFull))))))))))))))))))))))
+refusalOf n = cond (eqb n 1) (Setting Pel) (cond (eqb n 2) (Setting Gpu) (cond (eqb n 3) (Setting Finest) (cond (eqb n 4) (Setting Lean) (cond (eqb n 5) (Setting Side) (cond (eqb n 6) NoRecord (cond (eqb n 7) (Layout Shift) (cond (eqb n 8) (Layout Pitch) (cond (eqb n 32) (Layout Stored) (cond (eqb n 9) (Lent SourcePitch) (cond (eqb n 10) (Lent Source) (cond (eqb n 11) (Lent Frame) (cond (eqb n 12) (Lent Spill) (cond (eqb n 13) (Lent Scratch) (cond (eqb n 14) Levels (cond (eqb n 15) (Longhand Short) (cond (eqb n 17) (Longhand Length) (cond (eqb n 18) (Longhand Contents) (cond (eqb n 19) NoRow (cond (eqb n 20) (BadCode NoCode) (cond (eqb n 21) (BadCode Halving) (cond (eqb n 22) (BadCode Upscale) (cond (eqb n 23) (Planes ShortSide) (Planes NotFull)))))))))))))))))))))))
 
 pub number-back : (f : Refusal) → refusalOf (number f) ≡ f
 number-back (Setting Pel) = refl
@@ -41,6 +41,7 @@ number-back (Setting Side) = refl
 number-back NoRecord = refl
 number-back (Layout Shift) = refl
 number-back (Layout Pitch) = refl
+number-back (Layout Stored) = refl
 number-back (Lent SourcePitch) = refl
 number-back (Lent Source) = refl
 number-back (Lent Frame) = refl

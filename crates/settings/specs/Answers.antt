@@ -11,7 +11,7 @@ use Rattle.settings.specs.declared.refusal.Refusal.the-variants.{Setting
 use Rattle.settings.specs.declared.refusal.BadSetting.{BadSetting}
 use Rattle.settings.specs.declared.refusal.BadSetting.the-variants.{Pel, Gpu, Finest, Lean, Side}
 use Rattle.settings.specs.declared.refusal.BadLayout.{BadLayout}
-use Rattle.settings.specs.declared.refusal.BadLayout.the-variants.{Shift, Pitch}
+use Rattle.settings.specs.declared.refusal.BadLayout.the-variants.{Shift, Pitch, Stored}
 use Rattle.settings.specs.declared.refusal.BadLent.{BadLent}
 use Rattle.settings.specs.declared.refusal.BadLent.the-variants.{SourcePitch, Source, Frame, Spill, Scratch}
 use Rattle.settings.specs.declared.refusal.BadLonghand.{BadLonghand}
@@ -50,6 +50,7 @@ settingNumber Side = 5
 abbrev pub layoutNumber : BadLayout → ℕ
 layoutNumber Shift = 7
 layoutNumber Pitch = 8
+layoutNumber Stored = 32
 
 abbrev pub lentNumber : BadLent → ℕ
 lentNumber SourcePitch = 9

@@ -30,6 +30,7 @@ pub enum BadSetting {
 pub enum BadLayout {
     Shift,
     Pitch,
+    Stored,
 }
 
 // Of what a call is lent.
@@ -86,6 +87,7 @@ impl BadLayout {
         match self {
             BadLayout::Shift => 7,
             BadLayout::Pitch => 8,
+            BadLayout::Stored => 32,
         }
     }
 }

@@ -14,6 +14,9 @@ slice-relend-prefix-clear-margins c = search needs
 slice-aggregate-clear-margins : tie.Need-slice-aggregate-clear-margins
 slice-aggregate-clear-margins c = let a = c .before .before .before in sym (length-take-le (a .args .len) (a .args .frame .now) (c .before .if1 .left))
 
+made-requires : tie.Need-made-requires
+made-requires c κs = search needs
+
 clear-margins-requires : tie.Need-clear-margins-requires
 clear-margins-requires c κs = search needs
 
@@ -33,6 +36,7 @@ cleared-spec =
     returns
     slice-relend-prefix-clear-margins
     slice-aggregate-clear-margins
+    made-requires
     clear-margins-requires
     number-requires
     same-length

@@ -22,62 +22,59 @@ use Rattle.layouts.proofs.rows.placed_at.Statement.{statement}
 use Rattle.layouts.proofs.rows.placed_at.Tie as tie
 
 -- what the code has tested
-absent : (c : tie.After-struct-known) → (leb (c .before .stored .result) (c .before .before .before .args .plane) || leb (c .before .before .region .result .height) (c .before .before .before .args .y)) ≡ noRow (c .before .before .before .args .layout) (c .before .before .before .args .level) (c .before .before .before .args .plane) (c .before .before .before .args .y)
+absent : (c : tie.After-struct-known) → (leb (c .before .stored .result) (c .before .before .args .plane) || leb (c .before .before .args .target .height) (c .before .before .args .y)) ≡ noRow (c .before .before .args .layout) (c .before .before .args .level) (c .before .before .args .plane) (c .before .before .args .y)
 absent c =
-    let s = c .before .before .before in
-    rw (c .before .stored .ensures, c .before .before .region .ensures, lt-leb (levelsOf (s .args .layout)) (s .args .level) (s .pre .1))
+    let s = c .before .before in
+    rw (c .before .stored .ensures, s .pre .2, lt-leb (levelsOf (s .args .layout)) (s .args .level) (s .pre .1))
 
-row : (c : tie.Else1) → There (c .before .before .before .before .args .layout) (c .before .before .before .before .args .level) (c .before .before .before .before .args .plane) (c .before .before .before .before .args .y)
-row c = let s = c .before .before .before .before .args in there (s .layout) (s .level) (s .plane) (s .y) (rw (← absent (c .before)) (c .if1 .left))
+row : (c : tie.Else1) → There (c .before .before .before .args .layout) (c .before .before .before .args .level) (c .before .before .before .args .plane) (c .before .before .before .args .y)
+row c = let s = c .before .before .before .args in there (s .layout) (s .level) (s .plane) (s .y) (rw (← absent (c .before)) (c .if1 .left))
 
 -- the rows before this one, and the bytes
-small : (c : tie.Else1) → c .before .before .before .before .args .plane * c .before .before .before .region .result .height + c .before .before .before .before .args .y < 16 * mostSide
+small : (c : tie.Else1) → c .before .before .before .args .plane * c .before .before .before .args .target .height + c .before .before .before .args .y < 16 * mostSide
 small c =
-    let s = c .before .before .before .before in
+    let s = c .before .before .before in
     let q = s .args .layout in
     let t = row c in
-    rw (c .before .before .before .region .ensures) (omega (arith, row-in (s .args .plane) (storedAt q (s .args .level)) (heightAt q (s .args .level)) (t .plane), t .row, planes-le q (allowed q (s .pre .0)) (s .args .level)))
+    rw (s .pre .2) (omega (arith, row-in (s .args .plane) (storedAt q (s .args .level)) (heightAt q (s .args .level)) (t .plane), t .row, planes-le q (allowed q (s .pre .0)) (s .args .level)))
 
-bytes : (c : tie.Else1) → (c .before .before .before .before .args .plane * c .before .before .before .region .result .height + c .before .before .before .before .args .y) * c .before .before .before .before .args .layout .pitch ≤ 16 * mostSide * mostPitch
-bytes c = let s = c .before .before .before .before in prod-le (16 * mostSide) mostPitch (omega (arith, small c)) (allowed (s .args .layout) (s .pre .0) .most)
-
-region-requires : tie.Need-region-requires
-region-requires c κs = search needs
+bytes : (c : tie.Else1) → (c .before .before .before .args .plane * c .before .before .before .args .target .height + c .before .before .before .args .y) * c .before .before .before .args .layout .pitch ≤ 16 * mostSide * mostPitch
+bytes c = let s = c .before .before .before in prod-le (16 * mostSide) mostPitch (omega (arith, small c)) (allowed (s .args .layout) (s .pre .0) .most)
 
 stored-requires : tie.Need-stored-requires
 stored-requires c κs = tt
 
 returns : tie.Need-returns
 returns c =
-    let s = c .before .before .before .before .args in
+    let s = c .before .before .before .args in
     refused (refuse (noRow (s .layout) (s .level) (s .plane) (s .y)) 19) NoRow (runOf (s .layout) (s .level) (s .plane) (s .y)) noRun (rw (← absent (c .before), c .if1 .taken))
 
-mul-t7 : tie.Need-mul-t7
-mul-t7 c = omega (arith, small (c .before))
+mul-t6 : tie.Need-mul-t6
+mul-t6 c = omega (arith, small (c .before))
 
-add-t12 : tie.Need-add-t12
-add-t12 c = omega (arith, small (c .before))
+add-t11 : tie.Need-add-t11
+add-t11 c = omega (arith, small (c .before))
 
-mul-t13 : tie.Need-mul-t13
-mul-t13 c = omega (arith, bytes (c .before .before))
+mul-t12 : tie.Need-mul-t12
+mul-t12 c = omega (arith, bytes (c .before .before))
 
-add-t14 : tie.Need-add-t14
-add-t14 c =
+add-t13 : tie.Need-add-t13
+add-t13 c =
     let k = c .before .before .before in
-    let s = k .before .before .before .before in
+    let s = k .before .before .before in
     let q = s .args .layout in
     let a = allowed q (s .pre .0) in
-    omega (arith, bytes k, ap (λ (x : Region). x .offset) (k .before .before .before .region .ensures), offset-le q a (s .args .level) (omega (arith, levels-le q a, s .pre .1)))
+    omega (arith, bytes k, ap (λ (x : Region). x .offset) (s .pre .2), offset-le q a (s .args .level) (omega (arith, levels-le q a, s .pre .1)))
 
 returns-2 : tie.Need-returns-2
 returns-2 c =
     let k = c .before .before .before in
-    let s = k .before .before .before .before .args in
-    let q = s .layout in
-    ap (λ (x : Region). answer 0 (record { offset = x .offset + (s .plane * x .height + s .y) * q .pitch; length = x .width })) (k .before .before .before .region .ensures)
-    ∙ given (refuse (noRow q (s .level) (s .plane) (s .y)) 19) (runOf q (s .level) (s .plane) (s .y)) noRun (rw (← absent (k .before), k .if1 .left))
+    let s = k .before .before .before in
+    let a = s .args in
+    let q = a .layout in
+    ap (λ (x : Region). answer 0 (record { offset = x .offset + (a .plane * x .height + a .y) * q .pitch; length = x .width })) (s .pre .2)
+    ∙ given (refuse (noRow q (a .level) (a .plane) (a .y)) 19) (runOf q (a .level) (a .plane) (a .y)) noRun (rw (← absent (k .before), k .if1 .left))
 
 pub placed-at-spec : {M : Type 1} → statement M
 placed-at-spec =
-    tie.close
-    (tie.spec region-requires stored-requires returns mul-t7 add-t12 mul-t13 add-t14 returns-2)
+    tie.close (tie.spec stored-requires returns mul-t6 add-t11 mul-t12 add-t13 returns-2)

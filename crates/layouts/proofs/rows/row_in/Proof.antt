@@ -36,11 +36,14 @@ down-requires c κs =
     let levels = ap (λ (x : Naturals). x .levels) (n .naturals .ensures) in
     (s .pre, omega arith, omega (arith, c .before .if1 .left, levels-le (s .args .layout) (allowed (s .args .layout) (s .pre))), c .top .ensures)
 
+region-requires : tie.Need-region-requires
+region-requires c κs = (c .before .before .before .before .before .before .pre, c .down .ensures)
+
 placed-at-requires : tie.Need-placed-at-requires
 placed-at-requires c κs =
-    let n = c .before .before .before .before in
+    let n = c .before .before .before .before .before in
     let levels = ap (λ (x : Naturals). x .levels) (n .naturals .ensures) in
-    (n .before .before .pre, omega (arith, c .before .before .if1 .left), c .down .ensures)
+    (n .before .before .pre, omega (arith, c .before .before .before .if1 .left), c .region .ensures)
 
 returns-2 : tie.Need-returns-2
 returns-2 c = c .placed-at .ensures
@@ -53,5 +56,6 @@ row-in-spec =
     returns
     top-requires
     down-requires
+    region-requires
     placed-at-requires
     returns-2)

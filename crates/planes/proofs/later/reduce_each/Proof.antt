@@ -1,13 +1,16 @@
 -- `reduce_each` meets its contract. The loop has halved the levels passed. Assumes nothing.
 use mathlib.Core.Path.{ap, _∙_}
-use Prim.Native.Nat.{ℕ, _+_, _-_, _≤_}
+use Prim.Native.Nat.{ℕ, _+_, _-_, _≤_, _<_}
 use native.Mathlib.Omega.{arith}
 use lib.ListN.{length}
 use denote.Ref.{now}
 use Rattle.settings.specs.declared.super_opts.Naturals.{Naturals}
 use mathlib.Core.List.{_++_}
+use Rattle.layouts.specs.declared.layout.Region.{Region}
 use Rattle.layouts.specs.Storing.{steps}
+use Rattle.layouts.specs.Layout.{levelsOf}
 use Rattle.layouts.proofs.Loops.{walked-whole, next-less}
+use Rattle.stored.proofs.Exact.{kept-there}
 use Rattle.builder.proofs.Runs.{Passed, passed-none, passed-next}
 use Rattle.planes.specs.Build.{levelBy, halvedBy}
 use Rattle.planes.proofs.Prepared.{ready-kept}
@@ -15,10 +18,10 @@ use Rattle.planes.proofs.later.reduce_each.Statement.{statement}
 use Rattle.planes.proofs.later.reduce_each.Tie as tie
 
 abbrev Inv-loop : tie.InvT-loop
-Inv-loop fuse filter frame₀ spill₀ scratch₀ layout src sp levels level₀ frame spill scratch level = (1 ≤ level) × Passed (λ i. levelBy fuse layout src sp (length frame₀) filter (i + 1)) frame₀ spill₀ scratch₀ frame spill scratch (levels - 1) (level - 1)
+Inv-loop fuse filter frame₀ spill₀ scratch₀ layout stored src sp levels level₀ frame spill scratch level = (1 ≤ level) × Passed (λ i. levelBy fuse layout src sp (length frame₀) filter (i + 1)) frame₀ spill₀ scratch₀ frame spill scratch (levels - 1) (level - 1)
 
 abbrev μ-loop : tie.MeasureT-loop
-μ-loop fuse filter frame₀ spill₀ scratch₀ layout src sp levels level₀ frame spill scratch level = levels - level
+μ-loop fuse filter frame₀ spill₀ scratch₀ layout stored src sp levels level₀ frame spill scratch level = levels - level
 
 naturals-requires : tie.Need-naturals-requires Inv-loop μ-loop
 naturals-requires c κs = tt
@@ -26,25 +29,45 @@ naturals-requires c κs = tt
 loop-holds : tie.Need-loop-holds Inv-loop μ-loop
 loop-holds c = (omega arith, passed-none)
 
+-- the level is there
+inside : (c : tie.In-loop Inv-loop μ-loop) → c .before .loop .level < levelsOf (c .before .before .before .before .before .before .before .before .args .layout)
+inside c = omega (arith, ap (λ (x : Naturals). x .levels) (c .before .before .naturals .ensures), c .loop-test .taken)
+
+sub-region : tie.Need-sub-region Inv-loop μ-loop
+sub-region c = c .before .loop .inv .0
+
+region-requires : tie.Need-region-requires Inv-loop μ-loop
+region-requires c κs =
+    let s = c .before .before .before .before .before .before .before .before in
+    kept-there (s .args .layout) (s .args .stored) (s .pre .0 .layout) (s .pre .1) (c .before .loop .level - 1) (omega (arith, inside c)) .0
+
+region-requires-2 : tie.Need-region-requires-2 Inv-loop μ-loop
+region-requires-2 c κs =
+    let s = c .before .before .before .before .before .before .before .before .before in
+    kept-there (s .args .layout) (s .args .stored) (s .pre .0 .layout) (s .pre .1) (c .before .before .loop .level) (inside (c .before)) .0
+
 reduce-requires : tie.Need-reduce-requires Inv-loop μ-loop
 reduce-requires c κs =
-    let l = c .before .before .before .before .loop in
+    let turn = c .before .before .before .before .before in
+    let l = turn .before .loop in
     let p = l .inv .1 in
-    let n = ap (λ (x : Naturals). x .levels) (c .before .before .before .before .before .naturals .ensures) in
-    (ready-kept (p .frame) (p .spill) (p .scratch) (c .before .before .before .before .before .before .before .before .before .before .before .pre), l .inv .0, omega (arith, c .before .before .before .loop-test .taken, n))
+    let s = c .before .before .before .before .before .before .before .before .before .before .before .before .before in
+    let at = kept-there (s .args .layout) (s .args .stored) (s .pre .0 .layout) (s .pre .1) in
+    (ready-kept (p .frame) (p .spill) (p .scratch) (s .pre .0), l .inv .0, inside turn, ap (λ (x : Region). x .offset) (c .before .before .before .before .region .ensures ∙ at (l .level - 1) (omega (arith, inside turn)) .1), c .before .before .before .region2 .ensures ∙ at (l .level) (inside turn) .1)
 
 add-level : tie.Need-add-level Inv-loop μ-loop
 add-level c = omega arith
 
 loop-less : tie.Need-loop-less Inv-loop μ-loop
-loop-less c = next-less (c .before .before .before .before .before .before .before .before .before .before .loop-test .taken)
+loop-less c = next-less (c .before .before .before .before .before .before .before .before .before .before .before .before .loop-test .taken)
 
 loop-again : tie.Need-loop-again Inv-loop μ-loop
 loop-again c =
-    let a = c .before .before .before .before .before .before .before .before .before .before .before .before .before .before .before .before .before .before .args in
-    let l = c .before .before .before .before .before .before .before .before .before .before .before .loop in
+    let turn = c .before .before .before .before .before .before .before .before .before .before .before .before in
+    let a = turn .before .before .before .before .before .before .before .before .args in
+    let l = turn .before .loop in
     let r = c .before .before .before .before .before .before .reduce in
-    (omega arith, passed-next (levelBy (a .fuse) (a .layout) (now (a .src)) (a .src-pitch) (length (now (a .frame))) (a .filter)) (l .inv .0) (l .inv .1) (c .before .before .before .before .before .before .before .before .before .before .loop-test .taken) (r .kept .1 .1 .0) (r .kept .1 .1 .1 .0) (r .kept .1 .1 .1 .1 .0) (r .ensures ∙ ap (λ (k : ℕ). levelBy (a .fuse) (a .layout) (now (a .src)) (a .src-pitch) k (a .filter) (l .level) (l .frame ++ l .spill)) (l .inv .1 .frame)))
+    (omega arith, passed-next (levelBy (a .fuse) (a .layout) (now (a .src)) (a .src-pitch) (length (now (a .frame))) (a .filter)) (l .inv .0) (l .inv .1) (turn .loop-test .taken) (r .kept .1 .1 .0) (r .kept .1 .1 .1 .0) (r .kept .1 .1 .1 .1 .0) (r .ensures ∙ ap (λ (k : ℕ). levelBy (a .fuse) (a .layout) (now (a .src)) (a .src-pitch) k (a .filter) (l .level) (l .frame ++ l .spill)) (l .inv .1 .frame)))
 
 same-length : tie.Need-same-length Inv-loop μ-loop
 same-length c = c .before .loop .inv .1 .frame
@@ -71,6 +94,9 @@ reduce-each-spec =
     μ-loop
     naturals-requires
     loop-holds
+    sub-region
+    region-requires
+    region-requires-2
     reduce-requires
     add-level
     loop-less

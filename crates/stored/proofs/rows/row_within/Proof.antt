@@ -1,0 +1,86 @@
+-- `row_within` meets its contract. Assumes nothing.
+use mathlib.Core.Path.{_≡_, refl, sym, ap, _∙_}
+use mathlib.Core.Bool.{true}
+use Prim.Native.Nat.{ℕ}
+use native.Mathlib.Omega.{arith}
+use lib.Dec.{leb}
+use borrow.Author.Tests.{le-leb}
+use Rattle.settings.specs.declared.refusal.Refusal.the-variants.{NoRow, Lent}
+use Rattle.settings.specs.declared.refusal.BadLent.the-variants.{Frame}
+use Rattle.settings.specs.Numbers.{refuse}
+use Rattle.settings.specs.Answers.{ifDone}
+use Rattle.settings.proofs.Known.{refused}
+use Rattle.layouts.specs.declared.layout.Layout.{Layout}
+use Rattle.layouts.specs.Layout.{levelsOf, writtenEnd}
+use Rattle.layouts.specs.Refusals.{noRow}
+use Rattle.layouts.specs.Answers.{runOf, noRun}
+use Rattle.stored.specs.Layout.{viewOf}
+use Rattle.stored.specs.Refusals.{frameNo, rowNo}
+use Rattle.stored.proofs.Exact.{Found, passed, kept, found}
+use Rattle.stored.proofs.Numbers.{row-kept, frame-short, frame-long, row-last}
+use borrow.Author.Needs.{needs}
+use Rattle.stored.proofs.rows.row_within.Statement.{statement}
+use Rattle.stored.proofs.rows.row_within.Tie as tie
+
+ends : (c : tie.After-end) → c .end .result ≡ writtenEnd (viewOf (c .before .before .args .opts) (c .before .before .args .layout))
+ends c = c .end .ensures ∙ ap writtenEnd (c .before .view .ensures)
+
+long : (c : tie.Else1) → frameNo (c .before .before .before .args .opts) (c .before .before .before .args .layout) (c .before .before .before .args .len) ≡ 0
+long c = let s = c .before .before .before in frame-long (s .args .opts) (s .args .layout) (s .args .len) (s .pre) (omega (arith, ends (c .before), c .if1 .left))
+
+-- the level is there
+here : (c : tie.Else2) → Found (c .before .before .before .before .before .args .opts) (c .before .before .before .before .before .args .layout) (c .before .before .before .before .before .args .level)
+here c = let s = c .before .before .before .before .before in found (s .args .opts) (s .args .layout) (s .args .level) (s .pre) (omega (arith, c .if2 .left))
+
+view-requires : tie.Need-view-requires
+view-requires c κs = search needs
+
+end-requires : tie.Need-end-requires
+end-requires c κs =
+    let p = passed _ _ (c .before .pre) in
+    rw (c .view .ensures) (p .layout, p .same)
+
+returns : tie.Need-returns
+returns c =
+    let s = c .before .before .before in
+    let a = s .args in
+    let short = frame-short (a .opts) (a .layout) (a .len) (s .pre) (omega (arith, ends (c .before), c .if1 .taken)) in
+    refused (rowNo (a .opts) (a .layout) (a .len) (a .level) (a .plane) (a .y)) (Lent Frame) (runOf (viewOf (a .opts) (a .layout)) (a .level) (a .plane) (a .y)) noRun (row-kept (a .opts) (a .layout) (a .len) (Lent Frame) (a .level) (a .plane) (a .y) short)
+
+returns-2 : tie.Need-returns-2
+returns-2 c =
+    let s = c .before .before .before .before .before in
+    let a = s .args in
+    let q = viewOf (a .opts) (a .layout) in
+    let past : leb (levelsOf q) (a .level) ≡ true = le-leb (levelsOf q) (a .level) (omega (arith, kept q (a .layout) (passed _ _ (s .pre) .same) .count, c .if2 .taken)) in
+    refused (rowNo (a .opts) (a .layout) (a .len) (a .level) (a .plane) (a .y)) NoRow (runOf q (a .level) (a .plane) (a .y)) noRun (rw past at (row-last (a .opts) (a .layout) (a .len) (a .level) (a .plane) (a .y) (long (c .before .before))))
+
+region-requires : tie.Need-region-requires
+region-requires c κs = here c .few
+
+placed-at-requires : tie.Need-placed-at-requires
+placed-at-requires c κs =
+    let s = c .before .before .before .before .before .before in
+    let h = here (c .before) in
+    rw (c .before .before .before .before .before .view .ensures) (passed _ _ (s .pre) .layout, h .there, c .region .ensures ∙ h .region)
+
+returns-3 : tie.Need-returns-3
+returns-3 c =
+    let s = c .before .before .before .before .before .before .before in
+    let a = s .args in
+    let v = c .before .before .before .before .before .before in
+    c .placed-at .ensures
+    ∙ ap (λ (q : Layout). ifDone (refuse (noRow q (a .level) (a .plane) (a .y)) 19) (runOf q (a .level) (a .plane) (a .y)) noRun) (v .view .ensures)
+    ∙ ap (λ (n : ℕ). ifDone n (runOf (viewOf (a .opts) (a .layout)) (a .level) (a .plane) (a .y)) noRun) (row-last (a .opts) (a .layout) (a .len) (a .level) (a .plane) (a .y) (long (c .before .before .before .before)))
+
+pub row-within-spec : {M : Type 1} → statement M
+row-within-spec =
+    tie.close
+    (tie.spec
+    view-requires
+    end-requires
+    returns
+    returns-2
+    region-requires
+    placed-at-requires
+    returns-3)
