@@ -56,10 +56,7 @@ use Rattle.layouts.proofs.descent.Descent.top.Reads as descent-top-reads
 use Rattle.layouts.proofs.descent.Descent.next.Reads as descent-next-reads
 use Rattle.layouts.proofs.descent.Descent.down.Reads as descent-down-reads
 use Rattle.layouts.proofs.descent.Descent.region.Reads as descent-region-reads
-use Rattle.stored.proofs.layout.regions.Reads as regions-reads
 use Rattle.stored.proofs.layout.StoredLayout.view.Reads as view-reads
-use Rattle.stored.proofs.layout.StoredLayout.region.Reads as region-reads
-use Rattle.stored.proofs.layout.StoredLayout.end.Reads as end-reads
 use Rattle.stored.proofs.layout.StoredLayout.tested.Reads as stored-tested-reads
 use Rattle.stored.proofs.layout.StoredLayout.change.Reads as change-reads
 use Rattle.stored.proofs.rows.level_plane.Reads as level-plane-reads
@@ -194,17 +191,8 @@ descent-down-unique κs x r s e f p q = determined itself p q
 pub descent-region-unique : (κs : Lfts 0) → OneOutcome (descent-region-reads.Post κs) (λ r e. r)
 descent-region-unique κs x r s e f p q = determined itself p q
 
-pub regions-unique : (κs : Lfts 0) → OneOutcome (regions-reads.Post κs) (λ r e. r)
-regions-unique κs x r s e f p q = determined itself p q
-
 pub view-unique : (κs : Lfts 0) → OneOutcome (view-reads.Post κs) (λ r e. r)
 view-unique κs x r s e f p q = determined itself p q
-
-pub region-unique : (κs : Lfts 0) → OneOutcome (region-reads.Post κs) (λ r e. r)
-region-unique κs x r s e f p q = determined itself p q
-
-pub end-unique : (κs : Lfts 0) → OneOutcome (end-reads.Post κs) (λ r e. r)
-end-unique κs x r s e f p q = determined itself p q
 
 pub put-unique : (κs : Lfts 2) → OneOutcome (put-reads.Post κs) (λ r e. now (e .0))
 put-unique κs x r s e f p q = determined itself p q

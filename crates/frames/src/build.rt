@@ -24,7 +24,6 @@ use settings::refusal::BadLent;
 use settings::refusal::Refusal;
 use settings::refusal::Tested;
 use settings::super_opts::SuperOpts;
-use stored::layout::regions;
 
 fn bad_source_pitch(opts: SuperOpts, part: u32, pitch: usize) -> bool
     ensures { λ r. ⌜ r ≡ badPitch pitch (widthAt (planeOf opts part) 0) ⌝ }
@@ -105,7 +104,7 @@ fn build_tested(
     )
 }
 
-// The plane's layout is made here: it is the frame's own. A store past the part goes to the spill, not into the next part.
+// A store past the part goes to the spill, not into the next part.
 fn build_part(
     frame: &mut [u8],
     spill: &mut [u8],
@@ -122,9 +121,15 @@ fn build_part(
     let start = own.start;
     let end = start + own.length;
     let bytes = &mut frame[start..end];
-    let layout = plane_of(opts, part);
-    let stored = regions(layout);
-    build_spilled(true, bytes, spill, scratch, layout, stored, src, src_pitch);
+    build_spilled(
+        true,
+        bytes,
+        spill,
+        scratch,
+        plane_of(opts, part),
+        src,
+        src_pitch,
+    );
 }
 
 fn build_parts(

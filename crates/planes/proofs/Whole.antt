@@ -27,9 +27,8 @@ use Rattle.layouts.specs.Layout.{levelsOf, widthAt, heightAt, storedAt, written
 use Rattle.layouts.specs.Refusals.{badPitch, sourceNeed, layoutNo, lentNo, buildNo}
 use Rattle.layouts.specs.Room.{Ready}
 use Rattle.stored.specs.declared.layout.StoredLayout.{StoredLayout}
-use Rattle.stored.specs.Layout.{viewOf, keeps}
+use Rattle.stored.specs.Layout.{viewOf}
 use Rattle.stored.specs.Refusals.{storedBuildNo}
-use Rattle.stored.proofs.Exact.{passed}
 use Rattle.stored.proofs.Numbers.{build-stored, build-as-view}
 use Rattle.layouts.proofs.Choices.{cond-yes, cond-no}
 use Rattle.layouts.proofs.Loops.{row-in}
@@ -90,10 +89,9 @@ ready q n sp len spill scratch e =
     }
 
 -- of a build by a stored layout
-pub ready-stored : (r : SuperOpts) (s : StoredLayout) (n sp len spill scratch : ℕ) → storedBuildNo r s n sp len spill scratch ≡ 0 → Ready (viewOf r s) n sp len spill scratch × (keeps (viewOf r s) s ≡ true)
+pub ready-stored : (r : SuperOpts) (s : StoredLayout) (n sp len spill scratch : ℕ) → storedBuildNo r s n sp len spill scratch ≡ 0 → Ready (viewOf r s) n sp len spill scratch
 ready-stored r s n sp len spill scratch e =
-    let none = build-stored r s n sp len spill scratch e in
-    (ready (viewOf r s) n sp len spill scratch (sym (build-as-view r s n sp len spill scratch none) ∙ e), passed r s none .same)
+    ready (viewOf r s) n sp len spill scratch (sym (build-as-view r s n sp len spill scratch (build-stored r s n sp len spill scratch e)) ∙ e)
 
 -- other slices of the same or enough bytes
 pub ready-lent : {q : Layout} {n sp len spill scratch len' spill' scratch' : ℕ} → Ready q n sp len spill scratch → len' ≡ len → spillNeed q ≤ spill' → scratchNeed q ≤ scratch' → Ready q n sp len' spill' scratch'

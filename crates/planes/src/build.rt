@@ -1,7 +1,7 @@
 // A plane of a frame, built whole: open-svpflow's `build_plane`.
 // First level 0; then the refining of it; then all stages; last the call with a switch for the fused path, and the public one.
 ghost use mathlib.Core.Path.{_≡_};
-ghost use mathlib.Core.Bool.{true, cond};
+ghost use mathlib.Core.Bool.{cond};
 ghost use mathlib.Core.List.{_++_};
 ghost use Prim.Native.Nat.{_≤_};
 ghost use lib.ListN.{length};
@@ -9,7 +9,6 @@ ghost use Rattle.settings.specs.Answers.{tested};
 ghost use Rattle.layouts.specs.Layout.{levelsOf, writtenEnd, spillNeed, scratchNeed};
 ghost use Rattle.layouts.specs.Refusals.{layoutNo};
 ghost use Rattle.layouts.specs.Room.{Ready};
-ghost use Rattle.stored.specs.Layout.{keeps};
 ghost use Rattle.planes.specs.Build.{copied, refined, builtBy, frameBy, LeavesBy, BuildLeaves};
 use crate::later::reduce_levels;
 use crate::level0::source_row;
@@ -69,11 +68,10 @@ fn build_levels(
     spill: &mut [u8],
     scratch: &mut [u8],
     layout: Layout,
-    stored: StoredLayout,
     src: &[u8],
     src_pitch: usize,
 )
-    requires { ⌜ Ready layout (length (now src)) «src_pitch» (length (now frame)) (length (now spill)) (length (now scratch)) × (keeps layout stored ≡ true) ⌝ }
+    requires { ⌜ Ready layout (length (now src)) «src_pitch» (length (now frame)) (length (now spill)) (length (now scratch)) ⌝ }
     ensures { λ r. ⌜ now (frame .exit) ++ now (spill .exit) ≡ builtBy fuse layout (now (src .entry)) «src_pitch» (length (now (frame .entry))) (now (frame .entry) ++ now (spill .entry)) ⌝ }
 {
     let opts = layout.opts;
@@ -82,7 +80,7 @@ fn build_levels(
         return;
     }
     copy_rows(frame, layout, src, src_pitch);
-    reduce_levels(fuse, frame, spill, scratch, layout, stored, src, src_pitch);
+    reduce_levels(fuse, frame, spill, scratch, layout, src, src_pitch);
     refine_planes(frame, spill, scratch, layout);
 }
 
@@ -93,17 +91,16 @@ pub fn build_spilled(
     spill: &mut [u8],
     scratch: &mut [u8],
     layout: Layout,
-    stored: StoredLayout,
     src: &[u8],
     src_pitch: usize,
 )
-    requires { ⌜ Ready layout (length (now src)) «src_pitch» (length (now frame)) (length (now spill)) (length (now scratch)) × (keeps layout stored ≡ true) ⌝ }
+    requires { ⌜ Ready layout (length (now src)) «src_pitch» (length (now frame)) (length (now spill)) (length (now scratch)) ⌝ }
     ensures { λ r. ⌜ now (frame .exit) ≡ frameBy fuse layout (now (src .entry)) «src_pitch» (now (frame .entry)) ⌝ }
 {
     let need = spill_need(layout);
     let beyond = &mut spill[..need];
     zero_row(beyond);
-    build_levels(fuse, frame, beyond, scratch, layout, stored, src, src_pitch);
+    build_levels(fuse, frame, beyond, scratch, layout, src, src_pitch);
 }
 
 // For a site that turned the fused path off and asks what it may compare: the comparison with the Rust runs both with the path off.
@@ -132,7 +129,7 @@ pub fn build_plane_by(
         return t;
     };
     let view = layout.view(opts);
-    build_spilled(fuse, frame, spill, scratch, view, layout, src, src_pitch);
+    build_spilled(fuse, frame, spill, scratch, view, src, src_pitch);
     zero_row(spill);
     zero_row(scratch);
     Tested::Fine

@@ -1,24 +1,22 @@
 // Later levels, each from the level before it or from the source plane: open-svpflow's `reduce`, and the walk over the levels.
 ghost use mathlib.Core.Path.{_≡_};
 ghost use mathlib.Core.List.{_++_};
-ghost use mathlib.Core.Bool.{true};
 ghost use Prim.Native.Nat.{_-_, _≤_, _<_};
 ghost use lib.ListN.{length};
 ghost use Rattle.filters.specs.declared.halving.Chosen.the-variants.{Filter};
 ghost use Rattle.filters.specs.Halve.{chosen};
 ghost use Rattle.layouts.specs.Layout.{levelsOf, offsetAt, regionAt};
 ghost use Rattle.layouts.specs.Room.{Ready};
-ghost use Rattle.stored.specs.Layout.{keeps};
 ghost use Rattle.planes.specs.Build.{levelBy, halvedBy};
 use builder::halving::reduce_cubic;
 use builder::halving::reduce_within;
 use builder::separate::reduce_separate;
 use filters::halving::Chosen;
 use filters::halving::ReduceFilter;
+use layouts::descent::Descent;
 use layouts::layout::Layout;
 use layouts::layout::Region;
 use layouts::margins::fuses;
-use stored::layout::StoredLayout;
 
 fn reduce(
     fuse: bool,
@@ -56,19 +54,19 @@ fn reduce_each(
     spill: &mut [u8],
     scratch: &mut [u8],
     layout: Layout,
-    stored: StoredLayout,
     src: &[u8],
     src_pitch: usize,
 )
-    requires { ⌜ Ready layout (length (now src)) «src_pitch» (length (now frame)) (length (now spill)) (length (now scratch)) × (keeps layout stored ≡ true) ⌝ }
+    requires { ⌜ Ready layout (length (now src)) «src_pitch» (length (now frame)) (length (now spill)) (length (now scratch)) ⌝ }
     ensures { λ r. ⌜ now (frame .exit) ++ now (spill .exit) ≡ halvedBy fuse layout (now (src .entry)) «src_pitch» (length (now (frame .entry))) (Filter filter) (now (frame .entry) ++ now (spill .entry)) ⌝ }
 {
     let opts = layout.opts;
     let n = opts.naturals();
     let levels = n.levels;
+    let mut above = Descent::top(layout);
     for level in 1..levels {
-        let above = stored.region(level - 1);
-        let target = stored.region(level);
+        let at = above.next(layout, level - 1);
+        let target = at.region(layout, level);
         reduce(
             fuse,
             filter,
@@ -82,6 +80,7 @@ fn reduce_each(
             above.offset,
             target,
         );
+        above = at;
     }
 }
 
@@ -91,26 +90,15 @@ pub fn reduce_levels(
     spill: &mut [u8],
     scratch: &mut [u8],
     layout: Layout,
-    stored: StoredLayout,
     src: &[u8],
     src_pitch: usize,
 )
-    requires { ⌜ Ready layout (length (now src)) «src_pitch» (length (now frame)) (length (now spill)) (length (now scratch)) × (keeps layout stored ≡ true) ⌝ }
+    requires { ⌜ Ready layout (length (now src)) «src_pitch» (length (now frame)) (length (now spill)) (length (now scratch)) ⌝ }
     ensures { λ r. ⌜ now (frame .exit) ++ now (spill .exit) ≡ halvedBy fuse layout (now (src .entry)) «src_pitch» (length (now (frame .entry))) (chosen (layout .opts .«scale_down»)) (now (frame .entry) ++ now (spill .entry)) ⌝ }
 {
     let opts = layout.opts;
     let Chosen::Filter(filter) = ReduceFilter::from_option(opts.scale_down) else {
         return;
     };
-    reduce_each(
-        fuse,
-        filter,
-        frame,
-        spill,
-        scratch,
-        layout,
-        stored,
-        src,
-        src_pitch,
-    );
+    reduce_each(fuse, filter, frame, spill, scratch, layout, src, src_pitch);
 }

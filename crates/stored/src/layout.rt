@@ -68,7 +68,7 @@ fn refused(f: Refusal) -> Laid
 }
 
 // For calls that have tested what it is made from.
-pub fn regions(layout: Layout) -> StoredLayout
+fn regions(layout: Layout) -> StoredLayout
     requires { ⌜ layoutNo layout ≡ 0 ⌝ }
     ensures { λ r. ⌜ r ≡ storedOf layout ⌝ }
 {
@@ -130,7 +130,7 @@ impl StoredLayout {
         }
     }
 
-    pub fn region(self, level: u32) -> Region
+    pub(crate) fn region(self, level: u32) -> Region
         requires { ⌜ level < mostLevels ⌝ }
         ensures { λ r. ⌜ r ≡ regionIn self level ⌝ }
     {
@@ -226,7 +226,7 @@ impl StoredLayout {
     }
 
     // Where the last level ends, of a layout that passed the test.
-    pub fn end(self, layout: Layout) -> usize
+    pub(crate) fn end(self, layout: Layout) -> usize
         requires { ⌜ (layoutNo layout ≡ 0) × (keeps layout self ≡ true) ⌝ }
         ensures { λ r. ⌜ r ≡ writtenEnd layout ⌝ }
     {

@@ -1,15 +1,14 @@
 // The margins of a frame's levels, from the width to the pitch: open-svpflow's `clear_margins`.
 ghost use mathlib.Core.Path.{_≡_};
-ghost use mathlib.Core.Bool.{true};
 ghost use Prim.Native.Nat.{_≤_};
 ghost use lib.ListN.{length};
 ghost use Rattle.settings.specs.Answers.{answer, tested};
 ghost use Rattle.layouts.specs.Layout.{writtenEnd};
 ghost use Rattle.layouts.specs.Margins.{cleared};
 ghost use Rattle.layouts.specs.Refusals.{layoutNo};
-ghost use Rattle.stored.specs.Layout.{keeps};
 ghost use Rattle.stored.specs.Answers.{clearAnswer};
 use crate::layout::StoredLayout;
+use layouts::descent::Descent;
 use layouts::layout::Layout;
 use layouts::margins::clear_level;
 use settings::refusal::BadLent;
@@ -17,17 +16,19 @@ use settings::refusal::Refusal;
 use settings::refusal::Tested;
 use settings::super_opts::SuperOpts;
 
-fn clear_levels(frame: &mut [u8], layout: Layout, stored: StoredLayout)
-    requires { ⌜ (layoutNo layout ≡ 0) × (keeps layout stored ≡ true) × (writtenEnd layout ≤ length (now frame)) ⌝ }
+fn clear_levels(frame: &mut [u8], layout: Layout)
+    requires { ⌜ (layoutNo layout ≡ 0) × (writtenEnd layout ≤ length (now frame)) ⌝ }
     ensures { λ r. ⌜ now (frame .exit) ≡ cleared layout (now (frame .entry)) ⌝ }
 {
     let opts = layout.opts;
     let n = opts.naturals();
     let levels = n.levels;
+    let mut above = Descent::top(layout);
     for level in 1..levels {
-        let above = stored.region(level - 1);
-        let target = stored.region(level);
+        let at = above.next(layout, level - 1);
+        let target = at.region(layout, level);
         clear_level(frame, layout, level, above.offset, target);
+        above = at;
     }
 }
 
@@ -43,6 +44,6 @@ pub fn clear_margins(frame: &mut [u8], opts: SuperOpts, layout: StoredLayout) ->
     if frame.len() < layout.end(view) {
         return Tested::Refused(Refusal::Lent(BadLent::Frame));
     }
-    clear_levels(frame, view, layout);
+    clear_levels(frame, view);
     Tested::Fine
 }

@@ -5,10 +5,9 @@ use native.Mathlib.Omega.{arith}
 use lib.ListN.{length}
 use denote.Ref.{now}
 use borrow.Rule.Slice.PartMut.{same-len-mid}
-use Rattle.stored.proofs.Exact.{made-kept}
 use Rattle.frames.specs.declared.parts.Part.{Part}
 use Rattle.frames.specs.Parts.{lengthOf, startOf}
-use Rattle.frames.proofs.Laid.{laid-plane, length-le, part-ends, start-le}
+use Rattle.frames.proofs.Laid.{length-le, part-ends, start-le}
 use Rattle.frames.proofs.Prepared.{part-ready}
 use Rattle.frames.proofs.Joined.{lent-long, part-back}
 use Rattle.frames.proofs.build.build_part.Statement.{statement}
@@ -50,23 +49,17 @@ part-bytes-end c = inside (c .before)
 plane-of-requires : tie.Need-plane-of-requires
 plane-of-requires c κs = tt
 
-regions-requires : tie.Need-regions-requires
-regions-requires c κs = let s = c .before .before .before .before .before .before .before .before .before in laid-plane (s .args .opts) (s .pre .0) (s .args .part) (c .plane-of .ensures)
-
 build-spilled-requires : tie.Need-build-spilled-requires
 build-spilled-requires c κs =
-    let layout = c .before .before .before in
-    let p = layout .before .before .before in
-    let s = p .before .before .before .before .before .before in (
-      part-ready (s .pre .3) (layout .plane-of .ensures)
-          (lent-long (s .args .opts) (s .args .part) (p .part-of .result .start) (p .part-of .result .length) (start p) (long p) (now (s .args .frame)) (inside p)),
-      made-kept (layout .plane-of .result) (c .before .before .regions .ensures),
-    )
+    let p = c .before .before .before .before .before in
+    let s = p .before .before .before .before .before .before in
+    part-ready (s .pre .3) (c .plane-of .ensures)
+    (lent-long (s .args .opts) (s .args .part) (p .part-of .result .start) (p .part-of .result .length) (start p) (long p) (now (s .args .frame)) (inside p))
 
 same-length : tie.Need-same-length
 same-length c =
     let b = c .before .before .before .before .before .before in
-    let p = b .before .before .before .before .before .before .before in
+    let p = b .before .before .before .before .before .before in
     let a = p .before .before .before .before .before .before .args in
     let at = p .part-of .result in
     same-len-mid (at .start) (at .start + at .length - at .start) (now (a .frame)) (b .build-spilled .last .1 .0) (b .build-spilled .kept .1 .0)
@@ -80,9 +73,9 @@ same-length-3 c = c .before .before .before .before .before .before .build-spill
 returns : tie.Need-returns
 returns c =
     let b = c .before .before .before .before .before .before in
-    let p = b .before .before .before .before .before .before .before in
+    let p = b .before .before .before .before .before .before in
     let a = p .before .before .before .before .before .before .args in
-    part-back (a .opts) (a .part) (p .part-of .result .start) (p .part-of .result .length) (start p) (long p) (now (a .frame)) (now (a .src)) (a .src-pitch) (b .before .before .before .before .plane-of .ensures) (b .build-spilled .ensures)
+    part-back (a .opts) (a .part) (p .part-of .result .start) (p .part-of .result .length) (start p) (long p) (now (a .frame)) (now (a .src)) (a .src-pitch) (b .before .plane-of .ensures) (b .build-spilled .ensures)
 
 pub build-part-spec : {M : Type 1} → statement M
 build-part-spec =
@@ -95,7 +88,6 @@ build-part-spec =
     part-bytes-start
     part-bytes-end
     plane-of-requires
-    regions-requires
     build-spilled-requires
     same-length
     same-length-2

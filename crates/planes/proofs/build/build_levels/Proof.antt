@@ -4,6 +4,7 @@ use mathlib.Core.List.{_++_}
 use Prim.Native.Nat.{_≤_}
 use native.Mathlib.Omega.{arith}
 use denote.Ref.{now}
+use borrow.Author.Needs.{needs}
 use Rattle.settings.specs.declared.super_opts.Naturals.{Naturals}
 use Rattle.layouts.specs.Layout.{levelsOf}
 use Rattle.planes.proofs.Whole.{ready-lent, no-level, all-stages}
@@ -26,20 +27,17 @@ returns c =
     no-level (a .fuse) (a .layout) (now (a .src)) (now (a .frame) ++ now (a .spill)) (a .src-pitch) _ (sym (count at-naturals) ∙ c .if1 .taken)
 
 copy-rows-requires : tie.Need-copy-rows-requires
-copy-rows-requires c κs = (some (c .before), ready-lent (c .before .before .before .before .before .before .before .before .before .pre .0) refl (omega arith) (omega arith))
+copy-rows-requires c κs = (some (c .before), ready-lent (c .before .before .before .before .before .before .before .before .before .pre) refl (omega arith) (omega arith))
 
 reduce-levels-requires : tie.Need-reduce-levels-requires
-reduce-levels-requires c κs =
-    let at-copy-rows = c .before .before .before .before .before in
-    let p = at-copy-rows .before .before .before .before .before .before .before .before .before .before .pre in
-    (ready-lent (p .0) (at-copy-rows .copy-rows .kept .0) (p .0 .spills) (p .0 .room), p .1)
+reduce-levels-requires c κs = search needs
 
 refine-planes-requires : tie.Need-refine-planes-requires
 refine-planes-requires c κs =
     let at-reduce-levels = c .before .before .before .before .before .before .before .before .before in
     let at-copy-rows = at-reduce-levels .before .before .before .before .before .before in
     let at-if1 = at-copy-rows .before .before in
-    let r = at-if1 .before .before .before .before .before .before .before .before .pre .0 in
+    let r = at-if1 .before .before .before .before .before .before .before .before .pre in
     let k = at-reduce-levels .reduce-levels .kept .1 in
     (r .layout, some at-if1, omega (arith, r .end, k .0, at-copy-rows .copy-rows .kept .0), omega (arith, r .spills, k .1 .0), omega (arith, r .room, k .1 .1 .0))
 
@@ -60,7 +58,7 @@ returns-2 c =
     let at-if1 = at-copy-rows .before .before in
     let entered = at-if1 .before .before .before .before .before .before .before .before in
     let a = entered .args in
-    all-stages (a .fuse) (a .layout) (now (a .src)) (now (a .frame)) (now (a .spill)) _ _ _ (entered .pre .0) (some at-if1) (at-copy-rows .copy-rows .kept .0) (at-copy-rows .copy-rows .ensures) (at-reduce-levels .reduce-levels .ensures) (at-refine-planes .refine-planes .ensures)
+    all-stages (a .fuse) (a .layout) (now (a .src)) (now (a .frame)) (now (a .spill)) _ _ _ (entered .pre) (some at-if1) (at-copy-rows .copy-rows .kept .0) (at-copy-rows .copy-rows .ensures) (at-reduce-levels .reduce-levels .ensures) (at-refine-planes .refine-planes .ensures)
 
 pub build-levels-spec : {M : Type 1} → statement M
 build-levels-spec =

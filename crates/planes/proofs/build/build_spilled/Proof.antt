@@ -18,7 +18,7 @@ slice-relend-prefix-beyond : tie.Need-slice-relend-prefix-beyond
 slice-relend-prefix-beyond c = search needs
 
 part : (c : tie.After-spill-need) → length (take (c .spill-need .result) (now (c .before .before .before .before .before .args .spill))) ≡ c .spill-need .result
-part c = length-take-le (c .spill-need .result) (now (c .before .before .before .before .before .args .spill)) (omega (arith, c .spill-need .ensures, c .before .before .before .before .before .pre .0 .spills))
+part c = length-take-le (c .spill-need .result) (now (c .before .before .before .before .before .args .spill)) (omega (arith, c .spill-need .ensures, c .before .before .before .before .before .pre .spills))
 
 slice-aggregate-beyond : tie.Need-slice-aggregate-beyond
 slice-aggregate-beyond c = sym (part (c .before))
@@ -30,9 +30,8 @@ build-levels-requires : tie.Need-build-levels-requires
 build-levels-requires c κs =
     let at-zero-row = c .before .before .before .before in
     let at-spill-need = at-zero-row .before .before .before in
-    let p = at-spill-need .before .before .before .before .before .pre in
-    let r = p .0 in
-    (ready-lent r refl (omega (arith, at-zero-row .zero-row .kept .0, part at-spill-need, at-spill-need .spill-need .ensures)) (r .room), p .1)
+    let r = at-spill-need .before .before .before .before .before .pre in
+    ready-lent r refl (omega (arith, at-zero-row .zero-row .kept .0, part at-spill-need, at-spill-need .spill-need .ensures)) (r .room)
 
 same-length : tie.Need-same-length
 same-length c = c .before .before .before .before .before .before .build-levels .kept .1 .0

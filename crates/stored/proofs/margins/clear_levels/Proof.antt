@@ -1,54 +1,62 @@
--- `clear_levels` meets its contract. The loop has cleared the levels passed. Assumes nothing.
+-- `clear_levels` meets its contract. The loop has cleared the levels passed, and carries what is reached at the last of them. Assumes nothing.
 use mathlib.Core.Path.{_≡_, ap, _∙_}
 use Prim.Native.Nat.{ℕ, _+_, _-_, _≤_, _<_}
 use native.Mathlib.Omega.{arith}
 use denote.Ref.{now}
 use Rattle.settings.specs.declared.super_opts.Naturals.{Naturals}
-use Rattle.layouts.specs.declared.layout.Region.{Region}
+use Rattle.settings.specs.Limits.{mostLevels}
+use Rattle.layouts.specs.declared.descent.Descent.{Descent}
 use Rattle.layouts.specs.Storing.{steps}
-use Rattle.layouts.specs.Layout.{levelsOf, regionAt}
+use Rattle.layouts.specs.Layout.{levelsOf}
+use Rattle.layouts.specs.Descent.{reached}
 use Rattle.layouts.specs.Margins.{clearLevel, cleared}
 use Rattle.layouts.proofs.Loops.{Walked, walked-none, walked-next, walked-whole, next-less}
-use Rattle.stored.proofs.Exact.{kept-there}
+use Rattle.layouts.proofs.Layouts.{allowed, levels-le}
 use Rattle.stored.proofs.margins.clear_levels.Statement.{statement}
 use Rattle.stored.proofs.margins.clear_levels.Tie as tie
 
 abbrev Inv-loop : tie.InvT-loop
-Inv-loop frame₀ layout stored levels level₀ frame level = (1 ≤ level) × Walked (λ i. clearLevel layout (i + 1)) frame₀ frame (levels - 1) (level - 1)
+Inv-loop frame₀ layout levels above₀ level₀ frame above level = (1 ≤ level) × Walked (λ i. clearLevel layout (i + 1)) frame₀ frame (levels - 1) (level - 1) × (above ≡ reached layout (level - 1))
 
 abbrev μ-loop : tie.MeasureT-loop
-μ-loop frame₀ layout stored levels level₀ frame level = levels - level
+μ-loop frame₀ layout levels above₀ level₀ frame above level = levels - level
 
 -- the level is there
-inside : (c : tie.In-loop Inv-loop μ-loop) → c .before .loop .level < levelsOf (c .before .before .before .before .before .args .layout)
-inside c = omega (arith, ap (λ (x : Naturals). x .levels) (c .before .before .naturals .ensures), c .loop-test .taken)
+inside : (c : tie.In-loop Inv-loop μ-loop) → (c .before .loop .level < levelsOf (c .before .before .before .before .before .before .args .layout)) × (c .before .loop .level < mostLevels)
+inside c =
+    let top = c .before .before in
+    let s = top .before .before .before .before in
+    let n = ap (λ (x : Naturals). x .levels) (top .before .naturals .ensures) in
+    let lt : c .before .loop .level < levelsOf (s .args .layout) = omega (arith, n, c .loop-test .taken) in
+    (lt, omega (arith, levels-le (s .args .layout) (allowed (s .args .layout) (s .pre .0))))
 
 naturals-requires : tie.Need-naturals-requires Inv-loop μ-loop
 naturals-requires c κs = tt
 
-loop-holds : tie.Need-loop-holds Inv-loop μ-loop
-loop-holds c = (omega arith, walked-none)
+top-requires : tie.Need-top-requires Inv-loop μ-loop
+top-requires c κs = tt
 
-sub-region : tie.Need-sub-region Inv-loop μ-loop
-sub-region c = c .before .loop .inv .0
+loop-holds : tie.Need-loop-holds Inv-loop μ-loop
+loop-holds c = (omega arith, walked-none, c .top .ensures)
+
+sub-next : tie.Need-sub-next Inv-loop μ-loop
+sub-next c = omega arith
+
+next-requires : tie.Need-next-requires Inv-loop μ-loop
+next-requires c κs = (c .before .before .before .before .before .before .pre .0, omega (arith, inside c), c .before .loop .inv .2)
 
 region-requires : tie.Need-region-requires Inv-loop μ-loop
 region-requires c κs =
-    let s = c .before .before .before .before .before in
-    kept-there (s .args .layout) (s .args .stored) (s .pre .0) (s .pre .1) (c .before .loop .level - 1) (omega (arith, inside c)) .0
-
-region-requires-2 : tie.Need-region-requires-2 Inv-loop μ-loop
-region-requires-2 c κs =
-    let s = c .before .before .before .before .before .before in
-    kept-there (s .args .layout) (s .args .stored) (s .pre .0) (s .pre .1) (c .before .before .loop .level) (inside (c .before)) .0
+    let l = c .before .before in
+    let s = l .before .before .before .before .before in
+    (s .pre .0, c .next .ensures ∙ ap (reached (s .args .layout)) (omega (arith, l .loop .inv .0)))
 
 clear-level-requires : tie.Need-clear-level-requires Inv-loop μ-loop
 clear-level-requires c κs =
     let turn = c .before .before .before in
-    let l = turn .before .loop in
-    let s = turn .before .before .before .before .before in
-    let at = kept-there (s .args .layout) (s .args .stored) (s .pre .0) (s .pre .1) in
-    (s .pre .0, l .inv .0, inside turn, omega (arith, s .pre .2, l .inv .1 .same), ap (λ (x : Region). x .offset) (c .before .before .region .ensures ∙ at (l .level - 1) (omega (arith, inside turn)) .1), c .before .region2 .ensures ∙ at (l .level) (inside turn) .1)
+    let l = turn .before in
+    let s = l .before .before .before .before .before in
+    (s .pre .0, l .loop .inv .0, inside turn .0, omega (arith, s .pre .1, l .loop .inv .1 .same), ap (λ (d : Descent). d .offset) (l .loop .inv .2), c .before .region .ensures)
 
 add-level : tie.Need-add-level Inv-loop μ-loop
 add-level c = omega arith
@@ -58,10 +66,10 @@ loop-less c = next-less (c .before .before .before .before .before .before .loop
 
 loop-again : tie.Need-loop-again Inv-loop μ-loop
 loop-again c =
-    let turn = c .before .before .before .before .before .before in
-    let l = turn .before .loop in
-    let q = turn .before .before .before .before .before .args .layout in
-    (omega arith, walked-next (clearLevel q) (l .inv .0) (l .inv .1) (turn .loop-test .taken) (c .before .before .clear-level .kept .0) (c .before .before .clear-level .ensures))
+    let next = c .before .before .before .before .before in
+    let l = next .before .before in
+    let q = l .before .before .before .before .before .args .layout in
+    (omega arith, walked-next (clearLevel q) (l .loop .inv .0) (l .loop .inv .1) (next .before .loop-test .taken) (c .before .before .clear-level .kept .0) (c .before .before .clear-level .ensures), next .next .ensures ∙ ap (reached q) (omega (arith, l .loop .inv .0)))
 
 same-length : tie.Need-same-length Inv-loop μ-loop
 same-length c = c .before .loop .inv .1 .same
@@ -69,9 +77,10 @@ same-length c = c .before .loop .inv .1 .same
 returns : tie.Need-returns Inv-loop μ-loop
 unfolding cleared
 returns c =
-    let s = c .before .before .before .before .before .args in
-    let n = ap (λ (x : Naturals). x .levels) (c .before .before .naturals .ensures) in
-    walked-whole (c .before .loop .inv .1) (omega (arith, c .loop-test .left)) ∙ ap (λ (k : ℕ). steps (λ i. clearLevel (s .layout) (i + 1)) (k - 1) (now (s .frame))) n
+    let l = c .before in
+    let s = l .before .before .before .before .before .args in
+    let n = ap (λ (x : Naturals). x .levels) (l .before .before .naturals .ensures) in
+    walked-whole (l .loop .inv .1) (omega (arith, c .loop-test .left)) ∙ ap (λ (k : ℕ). steps (λ i. clearLevel (s .layout) (i + 1)) (k - 1) (now (s .frame))) n
 
 pub clear-levels-spec : {M : Type 1} → statement M
 clear-levels-spec =
@@ -80,10 +89,11 @@ clear-levels-spec =
     Inv-loop
     μ-loop
     naturals-requires
+    top-requires
     loop-holds
-    sub-region
+    sub-next
+    next-requires
     region-requires
-    region-requires-2
     clear-level-requires
     add-level
     loop-less

@@ -59,7 +59,7 @@ clear-levels-requires : tie.Need-clear-levels-requires
 clear-levels-requires c κs =
     let v = c .before .before .before in
     let p = passed _ _ (fine (v .before)) in
-    rw (v .view .ensures) (p .layout, p .same, omega (arith, ends (c .before .before), c .before .if1 .left))
+    rw (v .view .ensures) (p .layout, omega (arith, ends (c .before .before), c .before .if1 .left))
 
 same-length : tie.Need-same-length
 same-length c = c .before .before .clear-levels .kept .0
