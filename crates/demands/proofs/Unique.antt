@@ -57,6 +57,7 @@ use Rattle.layouts.proofs.descent.Descent.next.Reads as descent-next-reads
 use Rattle.layouts.proofs.descent.Descent.down.Reads as descent-down-reads
 use Rattle.layouts.proofs.descent.Descent.region.Reads as descent-region-reads
 use Rattle.stored.proofs.layout.StoredLayout.view.Reads as view-reads
+use Rattle.stored.proofs.layout.StoredLayout.region.Reads as region-reads
 use Rattle.stored.proofs.layout.StoredLayout.tested.Reads as stored-tested-reads
 use Rattle.stored.proofs.layout.StoredLayout.change.Reads as change-reads
 use Rattle.stored.proofs.rows.level_plane.Reads as level-plane-reads
@@ -193,6 +194,9 @@ descent-region-unique κs x r s e f p q = determined itself p q
 
 pub view-unique : (κs : Lfts 0) → OneOutcome (view-reads.Post κs) (λ r e. r)
 view-unique κs x r s e f p q = determined itself p q
+
+pub region-unique : (κs : Lfts 0) → OneOutcome (region-reads.Post κs) (λ r e. r)
+region-unique κs x r s e f p q = determined itself p q
 
 pub put-unique : (κs : Lfts 2) → OneOutcome (put-reads.Post κs) (λ r e. now (e .0))
 put-unique κs x r s e f p q = determined itself p q

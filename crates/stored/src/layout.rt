@@ -130,7 +130,7 @@ impl StoredLayout {
         }
     }
 
-    pub(crate) fn region(self, level: u32) -> Region
+    pub fn region(self, level: u32) -> Region
         requires { ⌜ level < mostLevels ⌝ }
         ensures { λ r. ⌜ r ≡ regionIn self level ⌝ }
     {
