@@ -10,14 +10,14 @@ use lib.Dec.{ltb, leb, eqb}
 use borrow.Author.Tests.{eqb-true, ltb-false, leb-false, lt-ltb, le-ltb, not-false}
 use Rattle.settings.specs.Limits.{mostSide, mostPitch, mostLevels}
 use Rattle.settings.specs.declared.refusal.Refusal.{Refusal}
-use Rattle.settings.specs.Answers.{Answer, answer, ifDone, number}
+use Rattle.settings.specs.Answers.{answer, ifDone, number}
 use Rattle.settings.specs.Numbers.{refuse, _then_, total}
 use Rattle.settings.specs.Sizes.{reduced}
 use Rattle.settings.specs.Check.{accepted, recordNo, lumaW, lumaH, pelOf}
 use Rattle.settings.proofs.Tests.{or-false-left, or-false-right, cond-le}
 use Rattle.settings.proofs.Refusals.{then-first, then-rest, refuse-not}
 use Rattle.settings.proofs.Heights.{prod-le, reduced-le, total-le, total-suc}
-use Rattle.settings.proofs.Known.{given, number-then}
+use Rattle.settings.proofs.Known.{number-then}
 use Rattle.settings.proofs.Accepted.{within}
 use Rattle.layouts.specs.declared.layout.Layout.{Layout}
 use Rattle.layouts.specs.declared.rows.Run.{Run}

@@ -4,7 +4,7 @@ use contract.Lifetimes.{Lfts}
 use Rattle.settings.proofs.Outcome.{Promises}
 use Rattle.layouts.specs.declared.layout.Layout.{Layout}
 use Rattle.stored.specs.Refusals.{storedNo}
-use Rattle.stored.specs.Answers.{layoutAnswer, changeAnswer}
+use Rattle.stored.specs.Answers.{layoutAnswer}
 use Rattle.stored.proofs.Known.{laid-known}
 use Rattle.stored.proofs.layout.level_regions.Reads as level-regions-reads
 use Rattle.stored.proofs.layout.StoredLayout.change.Reads as change-reads

@@ -3,21 +3,20 @@ use mathlib.Core.Path.{_≡_, refl, sym, ap, _∙_}
 use mathlib.Core.Bool.{Bool, true, false, not, _&&_}
 use mathlib.Core.List.{List}
 use mathlib.Core.Logic.{⊎-elim}
-use Prim.Native.Nat.{ℕ, zero, suc, _≤_, _<_}
+use Prim.Native.Nat.{ℕ, zero, suc, _<_}
 use native.Mathlib.Nat.{le-of-suc-le-suc, eq-or-lt-of-le}
 use native.Mathlib.Omega.{arith}
 use lib.Dec.{eqb}
-use lib.ListN.{length, getD}
+use lib.ListN.{length}
 use borrow.Author.Tests.{eqb-true, eq-eqb, not-false}
 use Rattle.settings.specs.declared.super_opts.SuperOpts.{SuperOpts}
 use Rattle.settings.specs.Limits.{mostLevels}
 use Rattle.settings.specs.Numbers.{refuse}
-use Rattle.settings.specs.Check.{accepted, recordNo}
+use Rattle.settings.specs.Check.{recordNo}
 use Rattle.settings.specs.Answers.{answer}
 use Rattle.settings.proofs.Tests.{and-left, and-right, clash, false-by}
-use Rattle.settings.proofs.Refusals.{then-first, then-rest, refuse-not}
+use Rattle.settings.proofs.Refusals.{then-rest, refuse-not}
 use Rattle.settings.proofs.Known.{given, number-of, value-given}
-use Rattle.filters.specs.Row.{tab}
 use Rattle.filters.proofs.Tables.{tab-at, is-tab}
 use Rattle.layouts.specs.declared.layout.Layout.{Layout}
 use Rattle.layouts.specs.declared.layout.Region.{Region}

@@ -1,6 +1,5 @@
 -- The numbers of a call that takes a stored layout: a refusal is kept by the tests after it; what comes where the layout isn't refused; and that it is document 01's number for the layout's view. Assumes nothing.
-use mathlib.Core.Path.{_≡_, refl, ap, _∙_}
-use mathlib.Core.Bool.{Bool}
+use mathlib.Core.Path.{_≡_, refl, _∙_}
 use Prim.Native.Nat.{ℕ, _≤_, _<_}
 use lib.Dec.{ltb}
 use borrow.Author.Tests.{ltb-false, lt-ltb, le-ltb}
@@ -10,7 +9,7 @@ use Rattle.settings.specs.Numbers.{refuse, _then_}
 use Rattle.settings.specs.Answers.{number}
 use Rattle.settings.proofs.Refusals.{then-first, then-rest, refuse-not}
 use Rattle.layouts.specs.Layout.{widthAt, writtenEnd}
-use Rattle.layouts.specs.Refusals.{badPitch, noRow, lentNo, layoutNo, buildNo}
+use Rattle.layouts.specs.Refusals.{badPitch, noRow, lentNo, buildNo}
 use Rattle.layouts.proofs.Layouts.{Rowed, then-kept}
 use Rattle.stored.specs.declared.layout.StoredLayout.{StoredLayout}
 use Rattle.stored.specs.Layout.{viewOf}

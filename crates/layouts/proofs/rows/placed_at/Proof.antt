@@ -5,7 +5,6 @@ use Prim.Native.Nat.{_+_, _*_, _≤_, _<_}
 use native.Mathlib.Omega.{arith}
 use lib.Dec.{leb}
 use borrow.Author.Tests.{lt-leb}
-use borrow.Author.Needs.{needs}
 use Rattle.settings.specs.declared.refusal.Refusal.the-variants.{NoRow}
 use Rattle.settings.specs.Limits.{mostSide, mostPitch}
 use Rattle.settings.specs.Numbers.{refuse}

@@ -1,6 +1,5 @@
 -- `level_plane` meets its contract. Assumes nothing.
-use mathlib.Core.Path.{_≡_, refl, sym, ap, _∙_}
-use Prim.Native.Nat.{ℕ}
+use mathlib.Core.Path.{_≡_, sym, ap, _∙_}
 use Rattle.settings.specs.Answers.{tested}
 use Rattle.settings.proofs.Known.{refused}
 use Rattle.stored.specs.Layout.{viewOf}

@@ -1,7 +1,7 @@
 -- `plane_within` meets its contract. Assumes nothing.
 use mathlib.Core.Path.{_≡_, refl, sym, ap, _∙_}
-use mathlib.Core.Bool.{true, false, _||_}
-use Prim.Native.Nat.{ℕ, _+_, _*_, _≤_, _<_}
+use mathlib.Core.Bool.{true, false}
+use Prim.Native.Nat.{_+_, _*_, _≤_, _<_}
 use native.Mathlib.Omega.{arith}
 use lib.Dec.{leb}
 use borrow.Author.Tests.{le-leb, lt-leb}
@@ -17,7 +17,6 @@ use Rattle.layouts.specs.declared.layout.Region.{Region}
 use Rattle.layouts.specs.Layout.{levelsOf, widthAt, heightAt, storedAt, offsetAt, regionAt, writtenEnd}
 use Rattle.layouts.proofs.Loops.{row-in}
 use Rattle.layouts.proofs.Layouts.{allowed, offset-le, planes-le}
-use Rattle.stored.specs.declared.rows.Plane.{Plane}
 use Rattle.stored.specs.Layout.{viewOf}
 use Rattle.stored.specs.Refusals.{frameNo, noPlane, levelPlaneNo}
 use Rattle.stored.specs.Answers.{levelPlane, noLevelPlane}

@@ -1,11 +1,10 @@
 -- `row_place` meets its contract. Assumes nothing.
-use mathlib.Core.Path.{_≡_, refl, sym, ap, _∙_}
-use Prim.Native.Nat.{ℕ}
+use mathlib.Core.Path.{_≡_, sym, ap, _∙_}
 use Rattle.settings.specs.Answers.{tested}
 use Rattle.settings.proofs.Known.{refused}
 use Rattle.layouts.specs.Answers.{runOf, noRun}
 use Rattle.stored.specs.Layout.{viewOf}
-use Rattle.stored.specs.Refusals.{storedNo, rowNo}
+use Rattle.stored.specs.Refusals.{rowNo}
 use Rattle.stored.proofs.Numbers.{frame-kept, row-kept}
 use borrow.Author.Needs.{needs}
 use Rattle.stored.proofs.rows.row_place.Statement.{statement}

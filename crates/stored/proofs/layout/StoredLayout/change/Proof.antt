@@ -1,8 +1,7 @@
 -- `change` meets its contract. Assumes nothing.
 use mathlib.Core.Path.{_≡_, sym, ap, _∙_}
-use Prim.Native.Nat.{ℕ}
 use Rattle.settings.specs.Numbers.{_then_}
-use Rattle.settings.specs.Answers.{ifDone, tested}
+use Rattle.settings.specs.Answers.{tested}
 use Rattle.settings.proofs.Known.{refused}
 use Rattle.layouts.specs.declared.layout.Layout.{Layout}
 use Rattle.layouts.specs.Refusals.{layoutNo}

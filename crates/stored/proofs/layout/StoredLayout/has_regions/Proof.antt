@@ -1,6 +1,6 @@
 -- `has_regions` meets its contract. The levels passed are as making gives them, and the walk carries what is reached there. Assumes nothing.
 use mathlib.Core.Path.{_≡_, sym, ap, _∙_}
-use mathlib.Core.Bool.{true, false}
+use mathlib.Core.Bool.{true}
 use mathlib.Core.Logic.{⊎-elim}
 use Prim.Native.Nat.{ℕ, _-_, _≤_, _<_}
 use native.Mathlib.Nat.{eq-or-lt-of-le}
@@ -9,11 +9,11 @@ use borrow.Author.Tests.{not-true, not-false}
 use Rattle.settings.specs.declared.super_opts.Naturals.{Naturals}
 use Rattle.settings.specs.Limits.{mostLevels}
 use Rattle.layouts.specs.declared.layout.Region.{Region}
-use Rattle.layouts.specs.Layout.{levelsOf, regionAt}
+use Rattle.layouts.specs.Layout.{levelsOf}
 use Rattle.layouts.specs.Descent.{reached}
 use Rattle.layouts.proofs.Loops.{next-less}
 use Rattle.layouts.proofs.Layouts.{allowed, levels-le, region-there}
-use Rattle.stored.specs.Layout.{regionIn, sameRegion, everyLevel, sameAt}
+use Rattle.stored.specs.Layout.{regionIn, sameRegion, sameAt}
 use Rattle.stored.proofs.Exact.{every-yes, every-no}
 use Rattle.stored.proofs.layout.StoredLayout.has_regions.Statement.{statement}
 use Rattle.stored.proofs.layout.StoredLayout.has_regions.Tie as tie

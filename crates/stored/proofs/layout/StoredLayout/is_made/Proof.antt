@@ -1,6 +1,5 @@
 -- `is_made` meets its contract. Assumes nothing.
 use mathlib.Core.Path.{_≡_, refl, sym, ap, _∙_}
-use native.Mathlib.Omega.{arith}
 use borrow.Author.Tests.{eq-eqb, ne-eqb}
 use Rattle.settings.specs.declared.super_opts.Naturals.{Naturals}
 use Rattle.layouts.specs.Layout.{levelsOf}

@@ -3,7 +3,6 @@ use mathlib.Core.Path.{_≡_, sym, ap, _∙_}
 use Prim.Native.Nat.{ℕ}
 use Rattle.settings.specs.Answers.{answer, tested}
 use Rattle.settings.proofs.Known.{given, refused}
-use Rattle.layouts.specs.declared.layout.Layout.{Layout}
 use Rattle.layouts.specs.declared.layout.Needs.{Needs}
 use Rattle.layouts.specs.Layout.{spillNeed, scratchNeed}
 use Rattle.layouts.specs.Refusals.{layoutNo}

@@ -3,7 +3,7 @@ use mathlib.Core.Path.{_≡_, sym, ap, _∙_}
 use Rattle.settings.specs.Answers.{answer, tested}
 use Rattle.settings.proofs.Known.{given, refused}
 use Rattle.layouts.specs.Layout.{writtenEnd}
-use Rattle.stored.specs.Layout.{viewOf, keeps}
+use Rattle.stored.specs.Layout.{viewOf}
 use Rattle.stored.specs.Refusals.{storedNo}
 use Rattle.stored.proofs.Exact.{passed}
 use borrow.Author.Needs.{needs}
