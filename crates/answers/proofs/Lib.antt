@@ -2,10 +2,8 @@
 --     Putting    an answer put at the front of a slice
 --     Telling    what a call tells, by the answer of the call that it makes
 --     Records    numbers that are no record's are refused by 6; a record's numbers are that record's
---     Layouts    a stored layout's numbers, and numbers that are none's
 --     Unique     one outcome for each public call
 pub mod Putting
 pub mod Telling
 pub mod Records
-pub mod Layouts
 pub mod Unique

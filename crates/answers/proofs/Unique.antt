@@ -16,8 +16,7 @@ use Rattle.answers.proofs.room.no_room.Reads as no-room-reads
 use Rattle.answers.proofs.room.put_numbers.Reads as put-numbers-reads
 use Rattle.answers.proofs.room.put_word.Reads as put-word-reads
 use Rattle.answers.proofs.room.put_sizes.Reads as put-sizes-reads
-use Rattle.answers.proofs.layout.layout_from.Reads as layout-from-reads
-use Rattle.answers.proofs.layout.put_layout.Reads as put-layout-reads
+use Rattle.answers.proofs.room.put_layout.Reads as put-layout-reads
 use Rattle.answers.proofs.sizes.plane_numbers.Reads as plane-numbers-reads
 
 pub settings-of-unique : (κs : Lfts 0) → OneOutcome (settings-of-reads.Post κs) (λ r e. r)
@@ -58,9 +57,6 @@ put-word-unique κs x r s e f p q = determined itself p q
 
 pub put-sizes-unique : (κs : Lfts 2) → OneOutcome (put-sizes-reads.Post κs) (λ r e. answer r (now (e .0)))
 put-sizes-unique κs x r s e f p q = determined itself p q
-
-pub layout-from-unique : (κs : Lfts 1) → OneOutcome (layout-from-reads.Post κs) (λ r e. r)
-layout-from-unique κs x r s e f p q = determined itself p q
 
 pub put-layout-unique : (κs : Lfts 1) → OneOutcome (put-layout-reads.Post κs) (λ r e. answer r (now (e .0)))
 put-layout-unique κs x r s e f p q = determined itself p q

@@ -1,8 +1,8 @@
--- The numbers that a call takes or tells, and what they stand for: settings, a record, what a word tells, a stored layout, what a build needs, where a level's plane lies, and where the parts of a frame lie.
+-- The numbers that a call takes or tells, and what they stand for: settings, a record, what a word tells, what a build needs, where a level's plane lies, and where the parts of a frame lie.
 use mathlib.Core.Bool.{Bool, true, false, cond, not, _&&_, _||_}
 use mathlib.Core.List.{List, [], _∷_, _++_}
-use Prim.Native.Nat.{ℕ, zero, suc, _+_, _*_, _/_, _%_, _^_}
-use lib.Dec.{eqb, leb}
+use Prim.Native.Nat.{ℕ, _/_, _%_, _^_}
+use lib.Dec.{eqb}
 use lib.IntN.{ℤ, pos}
 use lib.ListN.{length, getD}
 use Rattle.settings.specs.declared.super_opts.OptInt.{OptInt}
@@ -12,15 +12,11 @@ use Rattle.settings.specs.declared.super_opts.OptBool.the-variants.{Given as Gi
 use Rattle.settings.specs.declared.super_opts.Settings.{Settings}
 use Rattle.settings.specs.declared.super_opts.SuperOpts.{SuperOpts}
 use Rattle.settings.specs.declared.word.Description.{Description}
-use Rattle.settings.specs.Limits.{mostLevels}
 use Rattle.settings.specs.Numbers.{isNat, bit}
 use Rattle.settings.specs.Check.{intOr}
 use Rattle.settings.specs.Answers.{noRecord}
-use Rattle.filters.specs.Row.{tab}
 use Rattle.layouts.specs.declared.layout.Needs.{Needs}
-use Rattle.stored.specs.declared.layout.StoredLayout.{StoredLayout}
-use Rattle.stored.specs.declared.rows.Plane.{Plane}
-use Rattle.stored.specs.Layout.{regionIn, noStored}
+use Rattle.lookups.specs.declared.rows.Plane.{Plane}
 use Rattle.frames.specs.declared.parts.Part.{Part}
 use Rattle.frames.specs.declared.parts.Parts.{Parts}
 
@@ -117,40 +113,7 @@ toldNumbers d =
     ∷ intOr (d .up) (pos 0)
     ∷ []
 
--- ---- a stored layout: count, shifts and pitch, then of each level offset, width and height; they are taken as they are told (`layout-back` of proofs/Layouts.antt)
-unfoldable pub levelNumbers : StoredLayout → ℕ → List ℕ
-levelNumbers s zero = []
-levelNumbers s (suc n) = let t = regionIn s n in levelNumbers s n ++ (t .offset ∷ t .width ∷ t .height ∷ [])
-
-abbrev pub headNumbers : StoredLayout → List ℕ
-headNumbers s = s .count ∷ s .«x_shift» ∷ s .«y_shift» ∷ s .pitch ∷ []
-
-unfoldable pub layoutNumbers : StoredLayout → List ℕ
-layoutNumbers s = headNumbers s ++ levelNumbers s mostLevels
-
-abbrev pub sizeAt : List ℕ → ℕ → ℕ
-sizeAt l i = getD l i 0
-
--- 43 numbers, and each shift 0 or 1
-unfoldable pub areLayout : List ℕ → Bool
-areLayout l = eqb (length l) 43 && leb (sizeAt l 1) 1 && leb (sizeAt l 2) 1
-
-abbrev pub layoutIn : List ℕ → StoredLayout
-layoutIn l =
-    record {
-      «x_shift» = sizeAt l 1;
-      «y_shift» = sizeAt l 2;
-      pitch = sizeAt l 3;
-      count = sizeAt l 0;
-      offsets = tab (λ i. sizeAt l (4 + 3 * i)) mostLevels;
-      widths = tab (λ i. sizeAt l (5 + 3 * i)) mostLevels;
-      heights = tab (λ i. sizeAt l (6 + 3 * i)) mostLevels;
-    }
-
--- zeros where the numbers are no layout's: every call refuses them, a good record's by 32 (`no-layout-refused` of proofs/Layouts.antt)
-unfoldable pub layoutFrom : List ℕ → StoredLayout
-layoutFrom l = cond (areLayout l) (layoutIn l) noStored
-
+-- ---- where a level's plane lies
 abbrev pub planeNumbers : Plane → List ℕ
 planeNumbers p = p .start ∷ p .width ∷ p .height ∷ p .pitch ∷ []
 

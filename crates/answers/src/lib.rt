@@ -2,11 +2,9 @@
 //     given      settings by bits and numbers
 //     record     numbers to a record and back
 //     told       what a word tells, as numbers
-//     layout     numbers to a stored layout and back
 //     sizes      what a build needs, where a level's plane lies and where the parts of a frame lie, as numbers
 //     room       an answer put into a lent slice, and the number where that is too short
 pub mod given;
-pub mod layout;
 pub mod record;
 pub mod room;
 pub mod sizes;

@@ -1,15 +1,18 @@
 // An answer put at the front of a lent slice, and its number: 15 where the slice is too short, which comes after 1 to 14 and before the rest.
-// First the numbers of a test and of a refusal, and whether two slices are too short; last numbers, a word and sizes put.
+// First the numbers of a test and of a refusal, and whether two slices are too short; last numbers, a word, sizes and a layout put.
 ghost use mathlib.Core.Path.{_≡_};
-ghost use mathlib.Core.List.{[], _∷_, _++_};
-ghost use Prim.Native.Nat.{_+_, _≤_};
+ghost use mathlib.Core.List.{[], _∷_};
 ghost use lib.Dec.{ltb};
-ghost use lib.ListN.{length, take, drop};
 ghost use Rattle.settings.specs.Answers.{answer, number, tested};
+ghost use Rattle.layouts.specs.Refusals.{layoutNo};
+ghost use Rattle.stored.specs.Layout.{storedOf};
 ghost use Rattle.answers.specs.Lent.{lowest, noRoom, tells};
 use crate::record::FIELDS;
+use layouts::layout::Layout;
 use settings::refusal::Refusal;
 use settings::refusal::Tested;
+use stored::layout::LAYOUT;
+use stored::layout::fill;
 
 pub const TOO_SHORT: u32 = 15;
 
@@ -71,15 +74,20 @@ pub fn put_sizes(out: &mut [usize], values: &[usize]) -> u32
     if out.len() < values.len() {
         return TOO_SHORT;
     }
-    put_at(out, 0, values);
+    for i in 0..values.len() {
+        out[i] = values[i];
+    }
     0
 }
 
-pub(crate) fn put_at(out: &mut [usize], at: usize, values: &[usize])
-    requires { ⌜ at + length (now values) ≤ length (now out) ⌝ }
-    ensures { λ r. ⌜ now (out .exit) ≡ take at (now (out .entry)) ++ now (values .entry) ++ drop (at + length (now (values .entry))) (now (out .entry)) ⌝ }
+// A layout, made where it is told: for calls that have tested what it is made from.
+pub fn put_layout(out: &mut [usize], layout: Layout) -> u32
+    requires { ⌜ layoutNo layout ≡ 0 ⌝ }
+    ensures { λ r. ⌜ answer r (now (out .exit)) ≡ tells 0 (storedOf layout) (now (out .entry)) ⌝ }
 {
-    for i in 0..values.len() {
-        out[at + i] = values[i];
+    if out.len() < LAYOUT {
+        return TOO_SHORT;
     }
+    fill(&mut out[..LAYOUT], layout);
+    0
 }

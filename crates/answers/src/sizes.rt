@@ -3,7 +3,7 @@ ghost use mathlib.Core.Path.{_≡_};
 ghost use Rattle.answers.specs.Fields.{needNumbers, planeNumbers, partsNumbers};
 use frames::parts::Parts;
 use layouts::layout::Needs;
-use stored::rows::Plane;
+use lookups::rows::Plane;
 
 // How many numbers these are.
 pub const NEEDS: usize = 2;

@@ -2,6 +2,7 @@
 // A fused level keeps the margins that it has when they are cleared, and zeroes them from 2 * width on when it is built; another's are zeroed, and keep what they held. Last, the smallest picture whose build depends on bytes past the written end.
 use layouts::layout::Layout;
 use libc::STDOUT_FILENO;
+use lookups::margins::clear_margins;
 use planes::build::build_plane;
 use settings::refusal::Tested;
 use settings::super_opts::Checked;
@@ -9,9 +10,8 @@ use settings::super_opts::OptBool;
 use settings::super_opts::OptInt;
 use settings::super_opts::Settings;
 use settings::super_opts::SuperOpts;
-use stored::layout::StoredLayout;
+use stored::layout::LAYOUT;
 use stored::layout::level_regions;
-use stored::margins::clear_margins;
 
 fn main() {
     let mut frame = [1u8; 15000];
@@ -153,12 +153,13 @@ fn unfull_layout() -> Layout {
 fn built(frame: &mut [u8], layout: Layout, src: &[u8], src_pitch: usize) -> u32 {
     let mut spill = [7u8; 128];
     let mut scratch = [9u8; 1024];
+    let numbers = made(layout);
     number(build_plane(
         frame,
         &mut spill,
         &mut scratch,
         layout.opts,
-        made(layout),
+        &numbers,
         src,
         src_pitch,
     ))
@@ -180,7 +181,7 @@ fn layout(pel: i32, width: i32, height: i32, x_shift: u32, pitch: usize) -> Layo
 }
 
 // Zeros where it is refused, which the other calls refuse.
-fn made(layout: Layout) -> StoredLayout {
+fn made(layout: Layout) -> [usize; LAYOUT] {
     let laid = level_regions(layout);
     laid.layout
 }
@@ -217,7 +218,8 @@ fn cleared(frame: &mut [u8], len: usize, layout: Layout) -> u32 {
     if frame.len() < len {
         return 99;
     }
-    number(clear_margins(&mut frame[..len], layout.opts, made(layout)))
+    let numbers = made(layout);
+    number(clear_margins(&mut frame[..len], layout.opts, &numbers))
 }
 
 fn number(t: Tested) -> u32 {
@@ -234,7 +236,8 @@ fn margin(layout: Layout, at: usize) -> u32 {
 }
 
 fn byte_after(frame: &mut [u8], layout: Layout, at: usize) -> u32 {
-    clear_margins(frame, layout.opts, made(layout));
+    let numbers = made(layout);
+    clear_margins(frame, layout.opts, &numbers);
     byte_at(frame, at)
 }
 

@@ -14,9 +14,11 @@ use Rattle.layouts.specs.declared.layout.Layout.{Layout}
 use Rattle.layouts.specs.Layout.{offsetAt}
 use Rattle.layouts.specs.Margins.{cubicFits, fusedAt}
 use Rattle.layouts.specs.Refusals.{layoutNo}
-use Rattle.stored.specs.Layout.{everyLevel, keeps, isStored}
-use Rattle.stored.specs.Refusals.{storedNo, frameNo}
-use Rattle.stored.specs.Answers.{layoutAnswer, endAnswer}
+use Rattle.stored.specs.Layout.{storedOf, sameNumbers, isStored}
+use Rattle.stored.specs.Refusals.{storedNo}
+use Rattle.stored.specs.Answers.{layoutAnswer}
+use Rattle.lookups.specs.Refusals.{frameNo}
+use Rattle.lookups.specs.Answers.{endAnswer}
 
 -- a plane of w by h, full or not, with the other settings left out
 unfoldable pub plane : ℕ → Bool → ℕ → ℕ → ℕ → ℕ → ℕ → Layout
@@ -40,7 +42,7 @@ plane pel full w h levels shift pitch =
     }
 
 pub computed : List ℕ
-unfolding plane layoutNo storedNo frameNo isStored keeps everyLevel tab accepted settingsNo levelsIn reduced offsetAt total
+unfolding plane layoutNo storedNo frameNo isStored sameNumbers storedOf tab accepted settingsNo levelsIn reduced offsetAt total
 computed =
     let q = plane 2 true 64 48 4 0 64 in
     let s = layoutAnswer q .value in
@@ -56,7 +58,7 @@ pub said : List ℕ
 said = 12288 ∷ 0 ∷ 14976 ∷ 0 ∷ 11 ∷ []
 
 pub by-hand : computed ≡ said
-unfolding computed said plane layoutNo storedNo frameNo isStored keeps everyLevel tab accepted settingsNo levelsIn reduced offsetAt total
+unfolding computed said plane layoutNo storedNo frameNo isStored sameNumbers storedOf tab accepted settingsNo levelsIn reduced offsetAt total
 by-hand = refl
 
 -- level 1 is 8, 7 and 10 wide

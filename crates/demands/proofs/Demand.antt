@@ -27,11 +27,11 @@ use Rattle.settings.proofs.word.prepare_alike.Reads as prepare-alike-reads
 use Rattle.layouts.specs.declared.layout.Layout.{Layout}
 use Rattle.layouts.specs.Layout.{widthAt, writtenEnd, spillNeed, scratchNeed}
 use Rattle.layouts.specs.Refusals.{badPitch, layoutNo, sourceNeed, lentNo, buildNo}
-use Rattle.stored.specs.declared.layout.StoredLayout.{StoredLayout}
 use Rattle.stored.specs.Layout.{viewOf, storedOf}
+use Rattle.stored.proofs.Places.{view-stored}
 use Rattle.stored.proofs.Exact.{made-passes}
-use Rattle.stored.proofs.Numbers.{build-stored, build-as-view}
-use Rattle.planes.specs.Build.{frameBy, planeNo, LeavesBy}
+use Rattle.lookups.proofs.Numbers.{build-stored, build-as-view}
+use Rattle.planes.specs.Build.{frameBy, builtFrame, planeNo, LeavesBy}
 use Rattle.planes.proofs.Whole.{ready}
 use Rattle.demands.specs.Demands.{Inputs, withLayout, SameBuild, Differ, withDown, withUp, HalvingDiffers, UpscaleDiffers, Demand3, PacksTo, CallLeaves, leaves, Leaves}
 use Rattle.demands.proofs.Alike.{alike-build}
@@ -72,7 +72,7 @@ with-needs q n sp len spill scratch e =
     then-none before (lentNo q n sp len (spillNeed q) (scratchNeed q)) (then-first before lent e) (lent-needs q n sp len spill scratch (then-rest before lent e))
 
 -- what a build that was done leaves, with the fused path on or off
-pub done-leaves : (fuse : Bool) (r : SuperOpts) (s : StoredLayout) (src : List ℕ) (sp : ℕ) (F S X : List ℕ) {k : ℕ} {F' S' X' : List ℕ} → LeavesBy fuse r s src sp F S X k F' S' X' → k ≡ 0 → (buildNo (viewOf r s) (length src) sp (length F) (spillNeed (viewOf r s)) (scratchNeed (viewOf r s)) ≡ 0) × (F' ≡ frameBy fuse (viewOf r s) src sp F)
+pub done-leaves : (fuse : Bool) (r : SuperOpts) (s : List ℕ) (src : List ℕ) (sp : ℕ) (F S X : List ℕ) {k : ℕ} {F' S' X' : List ℕ} → LeavesBy fuse r s src sp F S X k F' S' X' → k ≡ 0 → (buildNo (viewOf r s) (length src) sp (length F) (spillNeed (viewOf r s)) (scratchNeed (viewOf r s)) ≡ 0) × (F' ≡ frameBy fuse (viewOf r s) src sp F)
 done-leaves fuse r s src sp F S X leaves done =
     let q = viewOf r s in
     let n = planeNo r s src sp F S X in
@@ -84,8 +84,14 @@ module _ (r : SuperOpts) (g : Inputs) (m : List ℕ) where
   abbrev q : Layout
   q = withLayout r g
 
+  -- the layout that the call is made with has the view that settled it
+  viewed : viewOf r (storedOf q) ≡ q
+  viewed = view-stored q
+
   leaves-by : CallLeaves r g m → Leaves r g m
-  leaves-by f = done-leaves true r (storedOf q) (g .plane) (g .«src_pitch») (g .frame) (f .spill) (f .scratch) (f .call) refl
+  leaves-by f =
+      let l = done-leaves true r (storedOf q) (g .plane) (g .«src_pitch») (g .frame) (f .spill) (f .scratch) (f .call) refl in
+      (ap (λ (x : Layout). buildNo x (length (g .plane)) (g .«src_pitch») (length (g .frame)) (spillNeed x) (scratchNeed x)) (sym viewed) ∙ l .0, l .1 ∙ ap (λ (x : Layout). builtFrame x (g .plane) (g .«src_pitch») (g .frame)) viewed)
 
   finished-by : Leaves r g m → CallLeaves r g m
   finished-by l =
@@ -94,13 +100,13 @@ module _ (r : SuperOpts) (g : Inputs) (m : List ℕ) where
       let n = planeNo r (storedOf q) (g .plane) (g .«src_pitch») (g .frame) spill scratch in
       let layout = ready q (length (g .plane)) (g .«src_pitch») (length (g .frame)) (spillNeed q) (scratchNeed q) (l .0) .layout in
       let as-view = build-as-view r (storedOf q) (length (g .plane)) (g .«src_pitch») (length (g .frame)) (length spill) (length scratch) (made-passes q layout) in
-      let none : n ≡ 0 = as-view ∙ rw (length-replicate {A = ℕ} (spillNeed q) 0, length-replicate {A = ℕ} (scratchNeed q) 0) (l .0) in
+      let none : n ≡ 0 = as-view ∙ rw (viewed, length-replicate {A = ℕ} (spillNeed q) 0, length-replicate {A = ℕ} (scratchNeed q) 0) (l .0) in
       record {
         spill = spill;
         scratch = scratch;
         spill' = replicate (length spill) 0;
         scratch' = replicate (length scratch) 0;
-        call = (ap (answer 0) (l .1) ∙ given n (leaves r g) (g .frame) none, given n (replicate (length spill) 0) spill none, given n (replicate (length scratch) 0) scratch none);
+        call = (ap (answer 0) (l .1 ∙ ap (λ (x : Layout). builtFrame x (g .plane) (g .«src_pitch») (g .frame)) (sym viewed)) ∙ given n (builtFrame (viewOf r (storedOf q)) (g .plane) (g .«src_pitch») (g .frame)) (g .frame) none, given n (replicate (length spill) 0) spill none, given n (replicate (length scratch) 0) scratch none);
       }
 
 -- from one account of the records behind a word, and of what builds leave, to another

@@ -23,14 +23,16 @@ use Rattle.filters.proofs.half_pel.HalfPel.from_option.Reads as half-pel-from-o
 use Rattle.filters.proofs.half_pel.HalfPel.vertical.Reads as half-vertical-reads
 use Rattle.filters.proofs.half_pel.HalfPel.horizontal.Reads as half-horizontal-reads
 use Rattle.layouts.proofs.Known.{placed-known, left-known}
-use Rattle.stored.proofs.Known.{laid-known, ended-known, needed-known, planed-known}
+use Rattle.stored.proofs.Known.{laid-known}
+use Rattle.lookups.proofs.Known.{ended-known, needed-known, planed-known}
+use Rattle.stored.proofs.layout.fill.Reads as fill-reads
 use Rattle.stored.proofs.layout.level_regions.Reads as level-regions-reads
-use Rattle.stored.proofs.layout.StoredLayout.written_end.Reads as written-end-reads
-use Rattle.stored.proofs.layout.StoredLayout.needs.Reads as needs-reads
-use Rattle.stored.proofs.rows.row_tested.Reads as row-tested-reads
-use Rattle.stored.proofs.rows.row_place.Reads as row-place-reads
-use Rattle.stored.proofs.rows.row.Reads as row-reads
-use Rattle.stored.proofs.margins.clear_margins.Reads as clear-margins-reads
+use Rattle.lookups.proofs.ends.written_end.Reads as written-end-reads
+use Rattle.lookups.proofs.ends.needs.Reads as needs-reads
+use Rattle.lookups.proofs.rows.row_tested.Reads as row-tested-reads
+use Rattle.lookups.proofs.rows.row_place.Reads as row-place-reads
+use Rattle.lookups.proofs.rows.row.Reads as row-reads
+use Rattle.lookups.proofs.margins.clear_margins.Reads as clear-margins-reads
 use Rattle.settings.proofs.super_opts.levels_of.Reads as levels-of-reads
 use Rattle.settings.proofs.super_opts.reduce_once.Reads as reduce-once-reads
 use Rattle.settings.proofs.super_opts.SuperOpts.accepted_but_levels.Reads as accepted-but-levels-reads
@@ -42,7 +44,7 @@ use Rattle.layouts.proofs.levels.offset.Reads as offset-reads
 use Rattle.layouts.proofs.lent.spill_need.Reads as spill-need-reads
 use Rattle.layouts.proofs.lent.source_need.Reads as source-need-reads
 use Rattle.layouts.proofs.lent.scratch_need.Reads as scratch-need-reads
-use Rattle.stored.proofs.lent.build_tested.Reads as build-tested-reads
+use Rattle.lookups.proofs.lent.build_tested.Reads as build-tested-reads
 use Rattle.layouts.proofs.levels.bad_pitch.Reads as bad-pitch-reads
 use Rattle.layouts.proofs.rows.row_in.Reads as row-in-reads
 use Rattle.layouts.proofs.rows.hand_out.Reads as hand-out-reads
@@ -56,11 +58,11 @@ use Rattle.layouts.proofs.descent.Descent.top.Reads as descent-top-reads
 use Rattle.layouts.proofs.descent.Descent.next.Reads as descent-next-reads
 use Rattle.layouts.proofs.descent.Descent.down.Reads as descent-down-reads
 use Rattle.layouts.proofs.descent.Descent.region.Reads as descent-region-reads
-use Rattle.stored.proofs.layout.StoredLayout.view.Reads as view-reads
-use Rattle.stored.proofs.layout.StoredLayout.region.Reads as region-reads
-use Rattle.stored.proofs.layout.StoredLayout.tested.Reads as stored-tested-reads
-use Rattle.stored.proofs.layout.StoredLayout.change.Reads as change-reads
-use Rattle.stored.proofs.rows.level_plane.Reads as level-plane-reads
+use Rattle.stored.proofs.layout.view.Reads as view-reads
+use Rattle.stored.proofs.layout.region_in.Reads as region-reads
+use Rattle.stored.proofs.layout.tested.Reads as stored-tested-reads
+use Rattle.stored.proofs.layout.change.Reads as change-reads
+use Rattle.lookups.proofs.rows.level_plane.Reads as level-plane-reads
 use Rattle.builder.proofs.canvas.put.Reads as put-reads
 use Rattle.builder.proofs.canvas.span.Reads as span-reads
 use Rattle.planes.proofs.Whole.{one-left}
@@ -144,7 +146,7 @@ offset-unique κs x r s e f p q = determined itself p q
 pub spill-need-unique : (κs : Lfts 0) → OneOutcome (spill-need-reads.Post κs) (λ r e. r)
 spill-need-unique κs x r s e f p q = determined itself p q
 
-pub build-tested-unique : (κs : Lfts 0) → OneOutcome (build-tested-reads.Post κs) (λ r e. r)
+pub build-tested-unique : (κs : Lfts 1) → OneOutcome (build-tested-reads.Post κs) (λ r e. r)
 build-tested-unique κs x r s e f p q = determined tested-known p q
 
 pub source-need-unique : (κs : Lfts 0) → OneOutcome (source-need-reads.Post κs) (λ r e. r)
@@ -192,10 +194,10 @@ descent-down-unique κs x r s e f p q = determined itself p q
 pub descent-region-unique : (κs : Lfts 0) → OneOutcome (descent-region-reads.Post κs) (λ r e. r)
 descent-region-unique κs x r s e f p q = determined itself p q
 
-pub view-unique : (κs : Lfts 0) → OneOutcome (view-reads.Post κs) (λ r e. r)
+pub view-unique : (κs : Lfts 1) → OneOutcome (view-reads.Post κs) (λ r e. r)
 view-unique κs x r s e f p q = determined itself p q
 
-pub region-unique : (κs : Lfts 0) → OneOutcome (region-reads.Post κs) (λ r e. r)
+pub region-unique : (κs : Lfts 1) → OneOutcome (region-reads.Post κs) (λ r e. r)
 region-unique κs x r s e f p q = determined itself p q
 
 pub put-unique : (κs : Lfts 2) → OneOutcome (put-reads.Post κs) (λ r e. now (e .0))
@@ -209,41 +211,44 @@ pub build-spilled-unique : (κs : Lfts 4) → OneOutcome (build-spilled-reads.Po
 build-spilled-unique κs x r s e f p q = determined itself p q
 
 -- ---- the calls of `stored` and `planes`
+pub fill-unique : (κs : Lfts 1) → OneOutcome (fill-reads.Post κs) (λ r e. now (e .0))
+fill-unique κs x r s e f p q = determined itself p q
+
 pub level-regions-unique : (κs : Lfts 0) → OneOutcome (level-regions-reads.Post κs) (λ r e. r)
 level-regions-unique κs x r s e f p q = determined laid-known p q
 
-pub stored-tested-unique : (κs : Lfts 0) → OneOutcome (stored-tested-reads.Post κs) (λ r e. r)
+pub stored-tested-unique : (κs : Lfts 1) → OneOutcome (stored-tested-reads.Post κs) (λ r e. r)
 stored-tested-unique κs x r s e f p q = determined tested-known p q
 
-pub change-unique : (κs : Lfts 0) → OneOutcome (change-reads.Post κs) (λ r e. r)
+pub change-unique : (κs : Lfts 1) → OneOutcome (change-reads.Post κs) (λ r e. r)
 change-unique κs x r s e f p q = determined laid-known p q
 
-pub written-end-unique : (κs : Lfts 0) → OneOutcome (written-end-reads.Post κs) (λ r e. r)
+pub written-end-unique : (κs : Lfts 1) → OneOutcome (written-end-reads.Post κs) (λ r e. r)
 written-end-unique κs x r s e f p q = determined ended-known p q
 
-pub needs-unique : (κs : Lfts 0) → OneOutcome (needs-reads.Post κs) (λ r e. r)
+pub needs-unique : (κs : Lfts 1) → OneOutcome (needs-reads.Post κs) (λ r e. r)
 needs-unique κs x r s e f p q = determined needed-known p q
 
-pub row-tested-unique : (κs : Lfts 0) → OneOutcome (row-tested-reads.Post κs) (λ r e. r)
+pub row-tested-unique : (κs : Lfts 1) → OneOutcome (row-tested-reads.Post κs) (λ r e. r)
 row-tested-unique κs x r s e f p q = determined tested-known p q
 
-pub row-place-unique : (κs : Lfts 0) → OneOutcome (row-place-reads.Post κs) (λ r e. r)
+pub row-place-unique : (κs : Lfts 1) → OneOutcome (row-place-reads.Post κs) (λ r e. r)
 row-place-unique κs x r s e f p q = determined placed-known p q
 
-pub level-plane-unique : (κs : Lfts 0) → OneOutcome (level-plane-reads.Post κs) (λ r e. r)
+pub level-plane-unique : (κs : Lfts 1) → OneOutcome (level-plane-reads.Post κs) (λ r e. r)
 level-plane-unique κs x r s e f p q = determined planed-known p q
 
 -- the bytes of the row, and where they lie
-pub row-unique : (κs : Lfts 1) → OneOutcome {O = (ℕ × ℕ) × List ℕ} (row-reads.Post κs) (λ r e. (ptr r, now r))
+pub row-unique : (κs : Lfts 2) → OneOutcome {O = (ℕ × ℕ) × List ℕ} (row-reads.Post κs) (λ r e. (ptr r, now r))
 row-unique κs x r s e f p q = rw (determined itself (p .0) (q .0), determined itself (p .1) (q .1))
 
 -- the answer and the frame
-pub clear-margins-unique : (κs : Lfts 1) → OneOutcome {O = Tested × List ℕ} (clear-margins-reads.Post κs) (λ r e. (r, now (e .0)))
+pub clear-margins-unique : (κs : Lfts 2) → OneOutcome {O = Tested × List ℕ} (clear-margins-reads.Post κs) (λ r e. (r, now (e .0)))
 clear-margins-unique κs x r s e f p q = determined left-known {a = (r, now (e .0))} {b = (s, now (f .0))} p q
 
 -- the answer, the frame, and what spill and scratch are left as
-pub build-plane-by-unique : (κs : Lfts 4) → OneOutcome {O = Tested × List ℕ × List ℕ × List ℕ} (build-plane-by-reads.Post κs) (λ r e. (r, now (e .1 .0), now (e .1 .1 .0), now (e .1 .1 .1 .0)))
+pub build-plane-by-unique : (κs : Lfts 5) → OneOutcome {O = Tested × List ℕ × List ℕ × List ℕ} (build-plane-by-reads.Post κs) (λ r e. (r, now (e .1 .0), now (e .1 .1 .0), now (e .1 .1 .1 .0)))
 build-plane-by-unique κs x r s e f p q = one-left p q
 
-pub build-plane-unique : (κs : Lfts 4) → OneOutcome {O = Tested × List ℕ × List ℕ × List ℕ} (build-plane-reads.Post κs) (λ r e. (r, now (e .0), now (e .1 .0), now (e .1 .1 .0)))
+pub build-plane-unique : (κs : Lfts 5) → OneOutcome {O = Tested × List ℕ × List ℕ × List ℕ} (build-plane-reads.Post κs) (λ r e. (r, now (e .0), now (e .1 .0), now (e .1 .1 .0)))
 build-plane-unique κs x r s e f p q = build-plane-by-unique κs (true, x) r s (true, e) (true, f) p q

@@ -8,6 +8,7 @@ use lib.IntN.{ℤ, pos}
 use lib.ListN.{length}
 use Rattle.settings.specs.declared.super_opts.Settings.{Settings}
 use Rattle.settings.specs.declared.super_opts.SuperOpts.{SuperOpts}
+use Rattle.settings.specs.Numbers.{_then_}
 use Rattle.settings.specs.Check.{settled, settingsNo, recordNo, superHeight, superWidth}
 use Rattle.settings.specs.Word.{packNo, wordOf}
 use Rattle.settings.specs.Reading.{candidate, readNo, describe}
@@ -18,12 +19,12 @@ use Rattle.layouts.specs.declared.rows.Run.{Run}
 use Rattle.layouts.specs.Layout.{writtenEnd}
 use Rattle.layouts.specs.Refusals.{layoutNo}
 use Rattle.layouts.specs.Answers.{needsOf, runOf}
-use Rattle.stored.specs.declared.layout.StoredLayout.{StoredLayout}
 use Rattle.stored.specs.Layout.{viewOf, storedOf}
-use Rattle.stored.specs.Refusals.{storedNo, rowNo, levelPlaneNo}
-use Rattle.stored.specs.Answers.{changeAnswer, levelPlane}
+use Rattle.stored.specs.Refusals.{storedNo}
+use Rattle.lookups.specs.Refusals.{rowNo, levelPlaneNo}
+use Rattle.lookups.specs.Answers.{levelPlane}
 use Rattle.frames.specs.Parts.{planesNo, partsOf, rowInNo, runInOf}
-use Rattle.answers.specs.Fields.{numbersOf, recordOf, toldNumbers, layoutNumbers, layoutFrom, needNumbers, planeNumbers, partsNumbers}
+use Rattle.answers.specs.Fields.{numbersOf, recordOf, toldNumbers, needNumbers, planeNumbers, partsNumbers}
 use Rattle.answers.specs.Lent.{noRoom, lowest, tells}
 
 -- ---- the numbers
@@ -47,24 +48,24 @@ abbrev pub sizesTells : SuperOpts → List ℤ → Answer (List ℤ)
 sizesTells r = tells (recordNo r) (pos (superWidth r) ∷ pos (superHeight r) ∷ [])
 
 abbrev pub layoutTells : Layout → List ℕ → Answer (List ℕ)
-layoutTells q = tells (layoutNo q) (layoutNumbers (storedOf q))
+layoutTells q = tells (layoutNo q) (storedOf q)
 
 -- of the record r, for the shifts x, y and the pitch p: the layout in l is the one that is changed
 abbrev pub changeTells : SuperOpts → ℕ → ℕ → ℕ → List ℕ → Answer (List ℕ)
-changeTells r x y p l = let a = changeAnswer r (layoutFrom l) x y p in ifDone (a .no) (written (layoutNumbers (a .value)) l) l
+changeTells r x y p l = let q : Layout = record { opts = r; «x_shift» = x; «y_shift» = y; pitch = p } in ifDone (storedNo r l then layoutNo q) (storedOf q) l
 
-abbrev pub endTells : SuperOpts → StoredLayout → List ℕ → Answer (List ℕ)
+abbrev pub endTells : SuperOpts → List ℕ → List ℕ → Answer (List ℕ)
 endTells r s = tells (storedNo r s) (writtenEnd (viewOf r s) ∷ [])
 
-abbrev pub needsTells : SuperOpts → StoredLayout → List ℕ → Answer (List ℕ)
+abbrev pub needsTells : SuperOpts → List ℕ → List ℕ → Answer (List ℕ)
 needsTells r s = tells (storedNo r s) (needNumbers (needsOf (viewOf r s)))
 
 -- row y of plane k of level l, in a frame of len bytes
-abbrev pub rowTells : SuperOpts → StoredLayout → ℕ → ℕ → ℕ → ℕ → List ℕ → Answer (List ℕ)
+abbrev pub rowTells : SuperOpts → List ℕ → ℕ → ℕ → ℕ → ℕ → List ℕ → Answer (List ℕ)
 rowTells r s len l k y = tells (rowNo r s len l k y) (runNumbers (runOf (viewOf r s) l k y))
 
 -- plane k of level l
-abbrev pub planeTells : SuperOpts → StoredLayout → ℕ → ℕ → ℕ → List ℕ → Answer (List ℕ)
+abbrev pub planeTells : SuperOpts → List ℕ → ℕ → ℕ → ℕ → List ℕ → Answer (List ℕ)
 planeTells r s len l k = tells (levelPlaneNo r s len l k) (planeNumbers (levelPlane (viewOf r s) l k))
 
 abbrev pub partsTells : SuperOpts → List ℕ → Answer (List ℕ)

@@ -1,32 +1,33 @@
 // A plane of a frame: its layout, made and changed; where its levels end, what a build needs, where a row and a level's plane lie, clearing margins, and the build.
 ghost use mathlib.Core.Path.{_≡_};
 ghost use Rattle.settings.specs.Answers.{answer};
-ghost use Rattle.stored.specs.Answers.{clearAnswer};
+ghost use Rattle.lookups.specs.Answers.{clearAnswer};
 ghost use Rattle.planes.specs.Build.{BuildLeaves};
-ghost use Rattle.answers.specs.Fields.{recordOf, layoutFrom};
+ghost use Rattle.answers.specs.Fields.{recordOf};
 ghost use Rattle.exports.specs.Calls.{layoutOf, layoutTells, changeTells, endTells, needsTells, rowTells, planeTells};
-use answers::layout::LAYOUT;
-use answers::layout::layout_from;
-use answers::layout::put_layout;
 use answers::record::record_of;
 use answers::room::lowest;
 use answers::room::number;
+use answers::room::put_layout;
 use answers::room::put_sizes;
 use answers::sizes::NEEDS;
 use answers::sizes::PLANE;
 use answers::sizes::need_numbers;
 use answers::sizes::plane_numbers;
 use layouts::layout::Layout;
+use layouts::levels;
 use layouts::rows::Placed;
+use lookups::ends;
+use lookups::ends::Ended;
+use lookups::ends::Needed;
+use lookups::margins::clear_margins;
+use lookups::rows::Planed;
+use lookups::rows::level_plane;
+use lookups::rows::row_place;
 use planes::build::build_plane;
 use settings::refusal::Tested;
-use stored::layout::Ended;
-use stored::layout::Needed;
-use stored::layout::level_regions;
-use stored::margins::clear_margins;
-use stored::rows::Planed;
-use stored::rows::level_plane;
-use stored::rows::row_place;
+use stored::layout::LAYOUT;
+use stored::layout::change;
 
 fn layout_of(fields: &[i32], x_shift: u32, y_shift: u32, pitch: usize) -> Layout
     ensures { λ r. ⌜ r ≡ layoutOf (now (fields .entry)) «x_shift» «y_shift» pitch ⌝ }
@@ -50,13 +51,9 @@ pub extern "C" fn sill_layout(
 ) -> u32
     ensures { λ r. ⌜ answer r (now (layout .exit)) ≡ layoutTells (layoutOf (now (fields .entry)) «x_shift» «y_shift» pitch) (now (layout .entry)) ⌝ }
 {
-    let laid = level_regions(layout_of(fields, x_shift, y_shift, pitch));
-    let tested = laid.tested;
-    match tested {
-        Tested::Fine => {
-            let made = laid.layout;
-            put_layout(layout, made)
-        }
+    let q = layout_of(fields, x_shift, y_shift, pitch);
+    match levels::tested(q) {
+        Tested::Fine => put_layout(layout, q),
         Tested::Refused(f) => lowest(f, layout.len(), LAYOUT),
     }
 }
@@ -72,13 +69,12 @@ pub extern "C" fn sill_layout_change(
 ) -> u32
     ensures { λ r. ⌜ answer r (now (layout .exit)) ≡ changeTells (recordOf (now (fields .entry))) «x_shift» «y_shift» pitch (now (layout .entry)) ⌝ }
 {
-    let opts = record_of(fields);
-    let laid = layout_from(layout).change(opts, x_shift, y_shift, pitch);
+    let laid = change(record_of(fields), layout, x_shift, y_shift, pitch);
     let tested = laid.tested;
     match tested {
         Tested::Fine => {
             let made = laid.layout;
-            put_layout(layout, made)
+            put_sizes(layout, &made)
         }
         Tested::Refused(f) => f.number(),
     }
@@ -87,10 +83,9 @@ pub extern "C" fn sill_layout_change(
 // Tells the written end. Refusals 6, 15, 32.
 #[no_mangle]
 pub extern "C" fn sill_written_end(fields: &[i32], layout: &[usize], end: &mut [usize]) -> u32
-    ensures { λ r. ⌜ answer r (now (end .exit)) ≡ endTells (recordOf (now (fields .entry))) (layoutFrom (now (layout .entry))) (now (end .entry)) ⌝ }
+    ensures { λ r. ⌜ answer r (now (end .exit)) ≡ endTells (recordOf (now (fields .entry))) (now (layout .entry)) (now (end .entry)) ⌝ }
 {
-    let opts = record_of(fields);
-    match layout_from(layout).written_end(opts) {
+    match ends::written_end(record_of(fields), layout) {
         Ended::End(n) => put_sizes(end, &[n]),
         Ended::Refused(f) => lowest(f, end.len(), 1),
     }
@@ -99,10 +94,9 @@ pub extern "C" fn sill_written_end(fields: &[i32], layout: &[usize], end: &mut [
 // Tells the bytes that a build needs of spill, then of scratch. Refusals 6, 15, 32.
 #[no_mangle]
 pub extern "C" fn sill_needs(fields: &[i32], layout: &[usize], needs: &mut [usize]) -> u32
-    ensures { λ r. ⌜ answer r (now (needs .exit)) ≡ needsTells (recordOf (now (fields .entry))) (layoutFrom (now (layout .entry))) (now (needs .entry)) ⌝ }
+    ensures { λ r. ⌜ answer r (now (needs .exit)) ≡ needsTells (recordOf (now (fields .entry))) (now (layout .entry)) (now (needs .entry)) ⌝ }
 {
-    let opts = record_of(fields);
-    match layout_from(layout).needs(opts) {
+    match ends::needs(record_of(fields), layout) {
         Needed::Needs(n) => put_sizes(needs, &need_numbers(n)),
         Needed::Refused(f) => lowest(f, needs.len(), NEEDS),
     }
@@ -111,11 +105,9 @@ pub extern "C" fn sill_needs(fields: &[i32], layout: &[usize], needs: &mut [usiz
 // Refusals 6, 32, 11.
 #[no_mangle]
 pub extern "C" fn sill_clear_margins(frame: &mut [u8], fields: &[i32], layout: &[usize]) -> u32
-    ensures { λ r. ⌜ answer r (now (frame .exit)) ≡ clearAnswer (recordOf (now (fields .entry))) (layoutFrom (now (layout .entry))) (now (frame .entry)) ⌝ }
+    ensures { λ r. ⌜ answer r (now (frame .exit)) ≡ clearAnswer (recordOf (now (fields .entry))) (now (layout .entry)) (now (frame .entry)) ⌝ }
 {
-    let opts = record_of(fields);
-    let stored = layout_from(layout);
-    number(clear_margins(frame, opts, stored))
+    number(clear_margins(frame, record_of(fields), layout))
 }
 
 // Tells the offset and the length of a row, in a frame of so many bytes. Refusals 6, 32, 11, 19, and 15.
@@ -129,11 +121,9 @@ pub extern "C" fn sill_row(
     y: usize,
     place: &mut [usize],
 ) -> u32
-    ensures { λ r. ⌜ answer r (now (place .exit)) ≡ rowTells (recordOf (now (fields .entry))) (layoutFrom (now (layout .entry))) frame level plane y (now (place .entry)) ⌝ }
+    ensures { λ r. ⌜ answer r (now (place .exit)) ≡ rowTells (recordOf (now (fields .entry))) (now (layout .entry)) frame level plane y (now (place .entry)) ⌝ }
 {
-    let opts = record_of(fields);
-    let stored = layout_from(layout);
-    match row_place(opts, stored, frame, level, plane, y) {
+    match row_place(record_of(fields), layout, frame, level, plane, y) {
         Placed::At(run) => put_sizes(place, &[run.offset, run.length]),
         Placed::Refused(f) => lowest(f, place.len(), 2),
     }
@@ -149,11 +139,9 @@ pub extern "C" fn sill_level_plane(
     plane: usize,
     place: &mut [usize],
 ) -> u32
-    ensures { λ r. ⌜ answer r (now (place .exit)) ≡ planeTells (recordOf (now (fields .entry))) (layoutFrom (now (layout .entry))) frame level plane (now (place .entry)) ⌝ }
+    ensures { λ r. ⌜ answer r (now (place .exit)) ≡ planeTells (recordOf (now (fields .entry))) (now (layout .entry)) frame level plane (now (place .entry)) ⌝ }
 {
-    let opts = record_of(fields);
-    let stored = layout_from(layout);
-    match level_plane(opts, stored, frame, level, plane) {
+    match level_plane(record_of(fields), layout, frame, level, plane) {
         Planed::At(p) => put_sizes(place, &plane_numbers(p)),
         Planed::Refused(f) => lowest(f, place.len(), PLANE),
     }
@@ -170,9 +158,8 @@ pub extern "C" fn sill_build_plane(
     src: &[u8],
     src_pitch: usize,
 ) -> u32
-    ensures { λ r. ⌜ BuildLeaves (recordOf (now (fields .entry))) (layoutFrom (now (layout .entry))) (now (src .entry)) «src_pitch» (now (frame .entry)) (now (spill .entry)) (now (scratch .entry)) r (now (frame .exit)) (now (spill .exit)) (now (scratch .exit)) ⌝ }
+    ensures { λ r. ⌜ BuildLeaves (recordOf (now (fields .entry))) (now (layout .entry)) (now (src .entry)) «src_pitch» (now (frame .entry)) (now (spill .entry)) (now (scratch .entry)) r (now (frame .exit)) (now (spill .exit)) (now (scratch .exit)) ⌝ }
 {
     let opts = record_of(fields);
-    let stored = layout_from(layout);
-    number(build_plane(frame, spill, scratch, opts, stored, src, src_pitch))
+    number(build_plane(frame, spill, scratch, opts, layout, src, src_pitch))
 }

@@ -17,9 +17,11 @@ use Rattle.layouts.specs.Layout.{widthAt}
 use Rattle.layouts.specs.Refusals.{badPitch, layoutNo, lentNo, buildNo}
 use Rattle.layouts.specs.Room.{Ready}
 use Rattle.stored.specs.Layout.{viewOf, storedOf}
-use Rattle.stored.specs.Refusals.{storedNo, storedBuildNo}
+use Rattle.stored.specs.Refusals.{storedNo}
+use Rattle.stored.proofs.Places.{view-stored}
 use Rattle.stored.proofs.Exact.{made-passes}
-use Rattle.stored.proofs.Numbers.{build-as-view}
+use Rattle.lookups.specs.Refusals.{storedBuildNo}
+use Rattle.lookups.proofs.Numbers.{build-as-view}
 use Rattle.planes.specs.Build.{builtFrame, planeNo}
 use Rattle.frames.specs.Parts.{planeOf, lengthOf, startOf}
 use Rattle.frames.specs.Build.{three, buildFrameNo, partBytes, partBuilt, FrameLeaves, Lent, PlaneCall, ByCalls}
@@ -35,8 +37,8 @@ fine q pitch r = rw (r .layout, pitch, le-ltb _ _ (r .source), le-ltb _ _ (r .en
 
 -- by the layout that making gives, whose view is the plane's
 plane-view : (r : SuperOpts) (k : ℕ) → viewOf r (storedOf (planeOf r k)) ≡ planeOf r k
-plane-view r zero = refl
-plane-view r (suc k) = refl
+plane-view r zero = view-stored (planeOf r zero)
+plane-view r (suc k) = view-stored (planeOf r (suc k))
 
 plane-passes : (r : SuperOpts) (k : ℕ) → layoutNo (planeOf r k) ≡ 0 → storedNo r (storedOf (planeOf r k)) ≡ 0
 plane-passes r zero = made-passes (planeOf r zero)

@@ -118,16 +118,16 @@ other-alike q src sp F other =
     ap (λ (x : List ℕ). take (length F) (cond (eqb (levelsOf q) 0) c (refined q x))) (halved-other q src sp (length F) other (chosen (q .opts .«scale_down»)) first)
 
 -- ---- about the calls: frame, spill, scratch, record, layout, source and source pitch; before them, of `build_plane_by`, whether the path is on
-pub build-plane-by-contract : (κs : Lfts 4) → Contract (build-plane-by-reads.Post κs) (λ x t e. LeavesBy (x .0) (x .1 .1 .1 .1 .0) (x .1 .1 .1 .1 .1 .0) (now (x .1 .1 .1 .1 .1 .1 .0)) (x .1 .1 .1 .1 .1 .1 .1 .0) (now (x .1 .0)) (now (x .1 .1 .0)) (now (x .1 .1 .1 .0)) (tested t) (now (e .1 .0)) (now (e .1 .1 .0)) (now (e .1 .1 .1 .0)))
+pub build-plane-by-contract : (κs : Lfts 5) → Contract (build-plane-by-reads.Post κs) (λ x t e. LeavesBy (x .0) (x .1 .1 .1 .1 .0) (now (x .1 .1 .1 .1 .1 .0)) (now (x .1 .1 .1 .1 .1 .1 .0)) (x .1 .1 .1 .1 .1 .1 .1 .0) (now (x .1 .0)) (now (x .1 .1 .0)) (now (x .1 .1 .1 .0)) (tested t) (now (e .1 .0)) (now (e .1 .1 .0)) (now (e .1 .1 .1 .0)))
 build-plane-by-contract κs x t e = both-ways
 
 -- the site's answer: what `build_plane` and, with the fused path off, `build_plane_by` leave by a full record in one frame, in which the margins of the levels that are fused are zeros
-pub calls-alike : (κs κs' : Lfts 4) → Promises (build-plane-reads.Post κs) (λ x t e. Promises (build-plane-by-reads.Post κs') (λ y u d. y .0 ≡ false → SameInput (viewOf (x .1 .1 .1 .0) (x .1 .1 .1 .1 .0)) (viewOf (y .1 .1 .1 .1 .0) (y .1 .1 .1 .1 .1 .0)) (now (x .1 .1 .1 .1 .1 .0)) (now (y .1 .1 .1 .1 .1 .1 .0)) (x .1 .1 .1 .1 .1 .1 .0) (y .1 .1 .1 .1 .1 .1 .1 .0) (now (x .0)) (now (y .1 .0)) → tested t ≡ 0 → tested u ≡ 0 → x .1 .1 .1 .0 .full ≡ true → FusedMarginsZero (viewOf (x .1 .1 .1 .0) (x .1 .1 .1 .1 .0)) (length (now (x .0))) (now (x .0)) → now (e .0) ≡ now (d .1 .0)))
+pub calls-alike : (κs κs' : Lfts 5) → Promises (build-plane-reads.Post κs) (λ x t e. Promises (build-plane-by-reads.Post κs') (λ y u d. y .0 ≡ false → SameInput (viewOf (x .1 .1 .1 .0) (now (x .1 .1 .1 .1 .0))) (viewOf (y .1 .1 .1 .1 .0) (now (y .1 .1 .1 .1 .1 .0))) (now (x .1 .1 .1 .1 .1 .0)) (now (y .1 .1 .1 .1 .1 .1 .0)) (x .1 .1 .1 .1 .1 .1 .0) (y .1 .1 .1 .1 .1 .1 .1 .0) (now (x .0)) (now (y .1 .0)) → tested t ≡ 0 → tested u ≡ 0 → x .1 .1 .1 .0 .full ≡ true → FusedMarginsZero (viewOf (x .1 .1 .1 .0) (now (x .1 .1 .1 .1 .0))) (length (now (x .0))) (now (x .0)) → now (e .0) ≡ now (d .1 .0)))
 calls-alike κs κs' x t e p y u d p' off same fine fine' full margins =
-    let q = viewOf (x .1 .1 .1 .0) (x .1 .1 .1 .1 .0) in
+    let q = viewOf (x .1 .1 .1 .0) (now (x .1 .1 .1 .1 .0)) in
     let src = now (x .1 .1 .1 .1 .1 .0) in
     let sp = x .1 .1 .1 .1 .1 .1 .0 in
     let F = now (x .0) in
-    let with-path = done-leaves true (x .1 .1 .1 .0) (x .1 .1 .1 .1 .0) src sp F (now (x .1 .0)) (now (x .1 .1 .0)) (build-plane-contract κs x t e .0 p) fine in
-    let without = done-leaves (y .0) (y .1 .1 .1 .1 .0) (y .1 .1 .1 .1 .1 .0) (now (y .1 .1 .1 .1 .1 .1 .0)) (y .1 .1 .1 .1 .1 .1 .1 .0) (now (y .1 .0)) (now (y .1 .1 .0)) (now (y .1 .1 .1 .0)) (build-plane-by-contract κs' y u d .0 p') fine' in
+    let with-path = done-leaves true (x .1 .1 .1 .0) (now (x .1 .1 .1 .1 .0)) src sp F (now (x .1 .0)) (now (x .1 .1 .0)) (build-plane-contract κs x t e .0 p) fine in
+    let without = done-leaves (y .0) (y .1 .1 .1 .1 .0) (now (y .1 .1 .1 .1 .1 .0)) (now (y .1 .1 .1 .1 .1 .1 .0)) (y .1 .1 .1 .1 .1 .1 .1 .0) (now (y .1 .0)) (now (y .1 .1 .0)) (now (y .1 .1 .1 .0)) (build-plane-by-contract κs' y u d .0 p') fine' in
     with-path .1 ∙ paths-alike q sp (scratchNeed q) full src F (with-path .0) margins ∙ sym (without .1 ∙ rw (off, same .one-layout, same .one-source, same .one-pitch, same .one-frame) refl)

@@ -26,10 +26,9 @@ use Rattle.layouts.specs.declared.layout.Layout.{Layout}
 use Rattle.layouts.specs.Layout.{levelsOf, widthAt, heightAt, storedAt, writtenEnd, spillNeed, scratchNeed}
 use Rattle.layouts.specs.Refusals.{badPitch, sourceNeed, layoutNo, lentNo, buildNo}
 use Rattle.layouts.specs.Room.{Ready}
-use Rattle.stored.specs.declared.layout.StoredLayout.{StoredLayout}
 use Rattle.stored.specs.Layout.{viewOf}
-use Rattle.stored.specs.Refusals.{storedBuildNo}
-use Rattle.stored.proofs.Numbers.{build-stored, build-as-view}
+use Rattle.lookups.specs.Refusals.{storedBuildNo}
+use Rattle.lookups.proofs.Numbers.{build-stored, build-as-view}
 use Rattle.layouts.proofs.Choices.{cond-yes, cond-no}
 use Rattle.layouts.proofs.Loops.{row-in}
 use Rattle.layouts.proofs.Known.{left-known}
@@ -89,7 +88,7 @@ ready q n sp len spill scratch e =
     }
 
 -- of a build by a stored layout
-pub ready-stored : (r : SuperOpts) (s : StoredLayout) (n sp len spill scratch : ℕ) → storedBuildNo r s n sp len spill scratch ≡ 0 → Ready (viewOf r s) n sp len spill scratch
+pub ready-stored : (r : SuperOpts) (s : List ℕ) (n sp len spill scratch : ℕ) → storedBuildNo r s n sp len spill scratch ≡ 0 → Ready (viewOf r s) n sp len spill scratch
 ready-stored r s n sp len spill scratch e =
     ready (viewOf r s) n sp len spill scratch (sym (build-as-view r s n sp len spill scratch (build-stored r s n sp len spill scratch e)) ∙ e)
 

@@ -18,9 +18,8 @@ use Rattle.layouts.specs.declared.layout.Layout.{Layout}
 use Rattle.layouts.specs.Storing.{put, steps}
 use Rattle.layouts.specs.Layout.{levelsOf, widthAt, heightAt, offsetAt, regionAt, spillNeed}
 use Rattle.layouts.specs.Margins.{fusedAt}
-use Rattle.stored.specs.declared.layout.StoredLayout.{StoredLayout}
 use Rattle.stored.specs.Layout.{viewOf}
-use Rattle.stored.specs.Refusals.{storedBuildNo}
+use Rattle.lookups.specs.Refusals.{storedBuildNo}
 use Rattle.builder.specs.declared.refining.Interp.{Interp}
 use Rattle.builder.specs.Canvas.{fetch, _▷_}
 use Rattle.builder.specs.Halving.{fromStored, fused, fromSource}
@@ -79,7 +78,7 @@ builtFrame = frameBy true
 
 -- ---- its number and value
 -- building, by what it is lent
-abbrev pub planeNo : SuperOpts → StoredLayout → List ℕ → ℕ → List ℕ → List ℕ → List ℕ → ℕ
+abbrev pub planeNo : SuperOpts → List ℕ → List ℕ → ℕ → List ℕ → List ℕ → List ℕ → ℕ
 planeNo r s src sp frame spill scratch = storedBuildNo r s (length src) sp (length frame) (length spill) (length scratch)
 
 -- by its number, with the frame that it leaves
@@ -94,10 +93,10 @@ abbrev pub lentAfter : ℕ → List ℕ → Answer (List ℕ)
 lentAfter n lent = ifDone n (replicate (length lent) 0) lent
 
 -- what a build of number k, of the record r and the stored layout s, leaves in the frame, in spill and in scratch
-abbrev pub LeavesBy : Bool → SuperOpts → StoredLayout → List ℕ → ℕ → List ℕ → List ℕ → List ℕ → ℕ → List ℕ → List ℕ → List ℕ → Type 0
+abbrev pub LeavesBy : Bool → SuperOpts → List ℕ → List ℕ → ℕ → List ℕ → List ℕ → List ℕ → ℕ → List ℕ → List ℕ → List ℕ → Type 0
 LeavesBy fuse r s src sp frame spill scratch k frame' spill' scratch' =
     let n = planeNo r s src sp frame spill scratch in
     (answer k frame' ≡ answerBy fuse n (viewOf r s) src sp frame) × (answer k spill' ≡ lentAfter n spill) × (answer k scratch' ≡ lentAfter n scratch)
 
-abbrev pub BuildLeaves : SuperOpts → StoredLayout → List ℕ → ℕ → List ℕ → List ℕ → List ℕ → ℕ → List ℕ → List ℕ → List ℕ → Type 0
+abbrev pub BuildLeaves : SuperOpts → List ℕ → List ℕ → ℕ → List ℕ → List ℕ → List ℕ → ℕ → List ℕ → List ℕ → List ℕ → Type 0
 BuildLeaves = LeavesBy true

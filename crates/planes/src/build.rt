@@ -21,10 +21,10 @@ use layouts::layout::Layout;
 use layouts::lent::spill_need;
 use layouts::levels::height;
 use layouts::levels::width;
+use lookups::lent::build_tested;
 use settings::refusal::Tested;
 use settings::super_opts::SuperOpts;
-use stored::layout::StoredLayout;
-use stored::lent::build_tested;
+use stored::layout::view;
 
 // Level 0, where it is stored: the source plane's rows, src_pitch apart.
 fn copy_rows(frame: &mut [u8], layout: Layout, src: &[u8], src_pitch: usize)
@@ -110,11 +110,11 @@ pub fn build_plane_by(
     spill: &mut [u8],
     scratch: &mut [u8],
     opts: SuperOpts,
-    layout: StoredLayout,
+    layout: &[usize],
     src: &[u8],
     src_pitch: usize,
 ) -> Tested
-    ensures { λ r. ⌜ LeavesBy fuse opts layout (now (src .entry)) «src_pitch» (now (frame .entry)) (now (spill .entry)) (now (scratch .entry)) (tested r) (now (frame .exit)) (now (spill .exit)) (now (scratch .exit)) ⌝ }
+    ensures { λ r. ⌜ LeavesBy fuse opts (now (layout .entry)) (now (src .entry)) «src_pitch» (now (frame .entry)) (now (spill .entry)) (now (scratch .entry)) (tested r) (now (frame .exit)) (now (spill .exit)) (now (scratch .exit)) ⌝ }
 {
     let t = build_tested(
         opts,
@@ -128,8 +128,8 @@ pub fn build_plane_by(
     let Tested::Fine = t else {
         return t;
     };
-    let view = layout.view(opts);
-    build_spilled(fuse, frame, spill, scratch, view, src, src_pitch);
+    let q = view(opts, layout);
+    build_spilled(fuse, frame, spill, scratch, q, src, src_pitch);
     zero_row(spill);
     zero_row(scratch);
     Tested::Fine
@@ -141,11 +141,11 @@ pub fn build_plane(
     spill: &mut [u8],
     scratch: &mut [u8],
     opts: SuperOpts,
-    layout: StoredLayout,
+    layout: &[usize],
     src: &[u8],
     src_pitch: usize,
 ) -> Tested
-    ensures { λ r. ⌜ BuildLeaves opts layout (now (src .entry)) «src_pitch» (now (frame .entry)) (now (spill .entry)) (now (scratch .entry)) (tested r) (now (frame .exit)) (now (spill .exit)) (now (scratch .exit)) ⌝ }
+    ensures { λ r. ⌜ BuildLeaves opts (now (layout .entry)) (now (src .entry)) «src_pitch» (now (frame .entry)) (now (spill .entry)) (now (scratch .entry)) (tested r) (now (frame .exit)) (now (spill .exit)) (now (scratch .exit)) ⌝ }
 {
     build_plane_by(true, frame, spill, scratch, opts, layout, src, src_pitch)
 }

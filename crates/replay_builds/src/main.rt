@@ -14,7 +14,6 @@ use libc::STDIN_FILENO;
 use planes::build::build_plane;
 use planes::build::build_plane_by;
 use settings::refusal::Tested;
-use stored::layout::StoredLayout;
 
 // The largest: a plane of 1920x1080 with all its levels, and the scratch of the widest pitch.
 fn main() {
@@ -101,16 +100,14 @@ fn answer_build(
         return false;
     }
     let laid = laid_of(head);
-    put_tested(after_making(
-        laid,
-        build(head, laid.layout, source, frame, spill, scratch),
-    ));
+    let layout = laid.layout;
+    put_tested(after_making(laid, build(head, &layout, source, frame, spill, scratch)));
     put_bytes(frame, spill, scratch, word(head, 20) != 0)
 }
 
 fn build(
     head: &[u8; 96],
-    layout: StoredLayout,
+    layout: &[usize],
     source: &[u8],
     frame: &mut [u8],
     spill: &mut [u8],

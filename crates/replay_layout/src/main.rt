@@ -8,14 +8,18 @@ use hex_lines::int_at;
 use hex_lines::put_word;
 use hex_lines::word_at;
 use layouts::layout::Layout;
+use layouts::layout::Region;
 use libc::STDIN_FILENO;
 use libc::STDOUT_FILENO;
+use lookups::ends::Ended;
+use lookups::ends::written_end;
 use settings::refusal::Tested;
 use settings::super_opts::SuperOpts;
-use stored::layout::Ended;
+use stored::layout::COUNT;
+use stored::layout::LAYOUT;
 use stored::layout::Laid;
-use stored::layout::StoredLayout;
 use stored::layout::level_regions;
+use stored::layout::region_in;
 
 fn main() {
     let mut lines: u32 = 0;
@@ -36,7 +40,7 @@ fn answer_one() -> bool {
     let layout = layout_at(&case);
     let laid = level_regions(layout);
     put_laid(&mut out, laid);
-    put_end(&mut out, written_end(laid, layout.opts));
+    put_end(&mut out, end_of(laid, layout.opts));
     end_line(&mut out);
     write_line(&out)
 }
@@ -77,33 +81,30 @@ fn put_laid(out: &mut [u8; 513], laid: Laid) {
         Tested::Refused(f) => put_word(out, 0, f.number()),
     }
     let layout = laid.layout;
-    put_wide(out, 1, layout.count);
-    put_regions(out, layout);
+    put_wide(out, 1, layout[COUNT]);
+    put_regions(out, &layout);
 }
 
-fn put_regions(out: &mut [u8; 513], layout: StoredLayout) {
-    let offsets = layout.offsets;
-    let widths = layout.widths;
-    let heights = layout.heights;
-    for i in 0..13usize {
-        put_region(out, i, offsets[i], widths[i], heights[i]);
+fn put_regions(out: &mut [u8; 513], layout: &[usize; LAYOUT]) {
+    for level in 0..13u32 {
+        put_region(out, level as usize, region_in(layout, level));
     }
 }
 
-fn put_region(out: &mut [u8; 513], i: usize, offset: usize, width: usize, height: usize)
+fn put_region(out: &mut [u8; 513], i: usize, r: Region)
     requires { ⌜ i < 13 ⌝ }
 {
-    put_two(out, 2 + 4 * i, offset);
-    put_wide(out, 4 + 4 * i, width);
-    put_wide(out, 5 + 4 * i, height);
+    put_two(out, 2 + 4 * i, r.offset);
+    put_wide(out, 4 + 4 * i, r.width);
+    put_wide(out, 5 + 4 * i, r.height);
 }
 
 // Where no layout is made there is none to ask: the number is making's.
-fn written_end(laid: Laid, opts: SuperOpts) -> Ended {
+fn end_of(laid: Laid, opts: SuperOpts) -> Ended {
     let tested = laid.tested;
     let layout = laid.layout;
     match tested {
-        Tested::Fine => layout.written_end(opts),
+        Tested::Fine => written_end(opts, &layout),
         Tested::Refused(f) => Ended::Refused(f),
     }
 }

@@ -9,10 +9,10 @@ use frame_cases::record_of;
 use frame_cases::word;
 use libc::STDIN_FILENO;
 use libc::STDOUT_FILENO;
+use lookups::margins::clear_margins;
+use lookups::rows::row;
+use lookups::rows::row_tested;
 use stored::layout::Laid;
-use stored::margins::clear_margins;
-use stored::rows::row;
-use stored::rows::row_tested;
 
 fn main() {
     let mut frame = [0u8; 131072];
@@ -48,7 +48,8 @@ fn answer_frame(head: &[u8; 80], frame: &mut [u8]) -> bool {
     }
     let laid = laid_of(head);
     if word(head, 18) == 0 {
-        put_tested(after_making(laid, clear_margins(frame, record_of(head), laid.layout)));
+        let layout = laid.layout;
+        put_tested(after_making(laid, clear_margins(frame, record_of(head), &layout)));
         return io::write_all(STDOUT_FILENO, frame);
     }
     answer_row(head, laid, frame)
@@ -60,8 +61,11 @@ fn answer_row(head: &[u8; 80], laid: Laid, frame: &[u8]) -> bool {
     let level = word(head, 15);
     let plane = word(head, 16) as usize;
     let y = word(head, 17) as usize;
-    put_tested(after_making(laid, row_tested(opts, layout, frame.len(), level, plane, y)));
-    put_row(row(frame, opts, layout, level, plane, y))
+    put_tested(after_making(
+        laid,
+        row_tested(opts, &layout, frame.len(), level, plane, y),
+    ));
+    put_row(row(frame, opts, &layout, level, plane, y))
 }
 
 fn put_row(row: &[u8]) -> bool {

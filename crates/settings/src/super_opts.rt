@@ -2,7 +2,8 @@
 // First the types; then `SuperOpts::from_opt` and what it is made of; `accepted`; `pack_data`; the super sizes; and last reducing and levels.
 ghost use mathlib.Core.Path.{_≡_};
 ghost use mathlib.Core.Bool.{true, cond, not};
-ghost use Prim.Native.Nat.{_+_, _*_, _<_, _≤_, _^_, max};
+ghost use Prim.Native.Nat.{_+_, _*_, _<_, _≤_, _^_, min, max};
+ghost use lib.Dec.{eqb};
 ghost use lib.IntN.{pos};
 ghost use Rattle.settings.specs.Limits.{mostSide, mostLevels};
 ghost use Rattle.settings.specs.Numbers.{isNat, toNat, bit};
@@ -212,7 +213,8 @@ impl SuperOpts {
     pub fn accepted(self) -> bool
         ensures { λ r. ⌜ r ≡ accepted self ⌝ }
     {
-        self.accepted_but_levels() & (self.levels == levels_of(self.width, self.height))
+        let n = self.naturals();
+        self.accepted_but_levels() & (0 <= self.levels) & has_levels(n.levels, n.width, n.height)
     }
 
     pub fn naturals(self) -> Naturals
@@ -358,6 +360,29 @@ fn auto_levels(width: u32, height: u32) -> u32
         h = reduce_once(h);
         i += 1;
     }
+}
+
+// Without a walk, since every call that is handed a record asks it: a level takes a bit off the shorter side, and a side of two bits or fewer has none.
+fn has_levels(levels: u32, width: u32, height: u32) -> bool
+    ensures { λ r. ⌜ r ≡ eqb levels (autoLevels width height) ⌝ }
+{
+    let least = shorter(width, height);
+    if levels == 0 {
+        return least < 4;
+    }
+    if levels > 30 {
+        return false;
+    }
+    least >> (levels + 1) == 1
+}
+
+fn shorter(width: u32, height: u32) -> u32
+    ensures { λ r. ⌜ r ≡ min width height ⌝ }
+{
+    if width < height {
+        return width;
+    }
+    height
 }
 
 // Of a record that isn't lean: `accepted_height` has answered a lean one before.

@@ -1,32 +1,68 @@
--- The test is exact: what it says of each level; that a layout which passes it is what making gives, number for number, and that what is made passes; and the view that such a layout has. Assumes nothing.
+-- The test is exact: what it says of each level; that it is the test by numbers; that a layout which passes it is what making gives, and that what is made passes. Assumes nothing.
 use mathlib.Core.Path.{_≡_, refl, sym, ap, _∙_}
 use mathlib.Core.Bool.{Bool, true, false, not, _&&_}
-use mathlib.Core.List.{List}
+use mathlib.Core.List.{List, [], _∷_}
 use mathlib.Core.Logic.{⊎-elim}
-use Prim.Native.Nat.{ℕ, zero, suc, _<_}
+use Prim.Native.Nat.{ℕ, zero, suc, _≤_, _<_}
 use native.Mathlib.Nat.{le-of-suc-le-suc, eq-or-lt-of-le}
 use native.Mathlib.Omega.{arith}
-use lib.Dec.{eqb}
-use lib.ListN.{length}
-use borrow.Author.Tests.{eqb-true, eq-eqb, not-false}
+use lib.Dec.{eqb, leb}
+use lib.ListN.{length, getD}
+use borrow.Author.Tests.{eqb-true, eq-eqb, le-leb, leb-true, not-false}
 use Rattle.settings.specs.declared.super_opts.SuperOpts.{SuperOpts}
 use Rattle.settings.specs.Limits.{mostLevels}
 use Rattle.settings.specs.Numbers.{refuse}
 use Rattle.settings.specs.Check.{recordNo}
 use Rattle.settings.specs.Answers.{answer}
-use Rattle.settings.proofs.Tests.{and-left, and-right, clash, false-by}
+use Rattle.settings.proofs.Tests.{and-left, and-right, yes-no, clash, false-by}
 use Rattle.settings.proofs.Refusals.{then-rest, refuse-not}
 use Rattle.settings.proofs.Known.{given, number-of, value-given}
-use Rattle.filters.proofs.Tables.{tab-at, is-tab}
 use Rattle.layouts.specs.declared.layout.Layout.{Layout}
 use Rattle.layouts.specs.declared.layout.Region.{Region}
 use Rattle.layouts.specs.Layout.{levelsOf, regionAt, regionOr}
 use Rattle.layouts.specs.Refusals.{layoutNo}
 use Rattle.layouts.proofs.Layouts.{allowed, levels-le, region-there}
-use Rattle.stored.specs.declared.layout.StoredLayout.{StoredLayout}
-use Rattle.stored.specs.Layout.{viewOf, storedOf, noStored, regionIn, sameRegion, everyLevel, sameAt, keeps, isStored}
+use Rattle.stored.specs.Layout.{mostNumbers, storedOf, noStored, viewOf, sameNumbers, isStored}
+use Rattle.stored.specs.Inner.{areLayout, regionIn, sameRegion, everyLevel, sameAt, keeps}
 use Rattle.stored.specs.Refusals.{storedNo}
 use Rattle.stored.specs.Answers.{layoutAnswer}
+use Rattle.stored.proofs.Places.{by-region, stored-long, stored-at, stored-region, view-stored, is-stored}
+
+-- ---- numbers that have a view
+pub record Shaped (l : List ℕ) : Type 0 where
+  pub long : length l ≡ mostNumbers
+  pub x : getD l 1 0 ≤ 1
+  pub y : getD l 2 0 ≤ 1
+
+pub shaped : (l : List ℕ) → areLayout l ≡ true → Shaped l
+unfolding areLayout
+shaped l e =
+    let n = eqb (length l) mostNumbers in
+    let x = leb (getD l 1 0) 1 in
+    let y = leb (getD l 2 0) 1 in
+    let nx = and-left (n && x) y e in
+    record { long = eqb-true (length l) mostNumbers (and-left n x nx); x = leb-true (getD l 1 0) 1 (and-right n x nx); y = leb-true (getD l 2 0) 1 (and-right (n && x) y e) }
+
+-- ---- number for number
+same-self : (l : List ℕ) → sameNumbers l l ≡ true
+unfolding sameNumbers
+same-self [] = refl
+same-self (a ∷ l) = rw (eq-eqb a a refl, same-self l) refl
+
+by-parts : {a b : ℕ} {l m : List ℕ} → a ≡ b → l ≡ m → a ∷ l ≡ b ∷ m
+by-parts e f = rw (e, f)
+
+same-numbers : (l m : List ℕ) → sameNumbers l m ≡ true → l ≡ m
+unfolding sameNumbers
+same-numbers [] [] e = refl
+same-numbers [] (b ∷ m) e = absurd (yes-no (sym e))
+same-numbers (a ∷ l) [] e = absurd (yes-no (sym e))
+same-numbers (a ∷ l) (b ∷ m) e = by-parts (eqb-true a b (and-left (eqb a b) (sameNumbers l m) e)) (same-numbers l m (and-right (eqb a b) (sameNumbers l m) e))
+
+alike : (a b : Bool) → (a ≡ true → b ≡ true) → (b ≡ true → a ≡ true) → a ≡ b
+alike true b f g = sym (f refl)
+alike false true f g = g refl
+alike false false f g = refl
 
 -- ---- each of the first n
 pub every-yes : (p : ℕ → Bool) (n : ℕ) → ((j : ℕ) → j < n → p j ≡ true) → everyLevel p n ≡ true
@@ -47,10 +83,7 @@ pub every-no : (p : ℕ → Bool) (n j : ℕ) → j < n → p j ≡ false → ev
 every-no p n j lt e = false-by (everyLevel p n) (λ yes. clash (p j) (every-at p n yes j lt) e)
 
 -- ---- one region
-by-region : {o p w x h g : ℕ} → o ≡ p → w ≡ x → h ≡ g → _≡_ {A = Region} (record { offset = o; width = w; height = h }) (record { offset = p; width = x; height = g })
-by-region a b c = rw (a, b, c)
-
-pub same-is : (a b : Region) → sameRegion a b ≡ true → a ≡ b
+same-is : (a b : Region) → sameRegion a b ≡ true → a ≡ b
 same-is a b e =
     let o = eqb (a .offset) (b .offset) in
     let w = eqb (a .width) (b .width) in
@@ -58,106 +91,99 @@ same-is a b e =
     let ow = and-left (o && w) h e in
     by-region (eqb-true (a .offset) (b .offset) (and-left o w ow)) (eqb-true (a .width) (b .width) (and-right o w ow)) (eqb-true (a .height) (b .height) (and-right (o && w) h e))
 
-pub is-same : (a b : Region) → a ≡ b → sameRegion a b ≡ true
+is-same : (a b : Region) → a ≡ b → sameRegion a b ≡ true
 is-same a b e = rw (eq-eqb (a .offset) (b .offset) (ap (λ (r : Region). r .offset) e), eq-eqb (a .width) (b .width) (ap (λ (r : Region). r .width) e), eq-eqb (a .height) (b .height) (ap (λ (r : Region). r .height) e)) refl
 
--- ---- the levels of a layout, by its view
-pub record Kept (q : Layout) (s : StoredLayout) : Type 0 where
-  pub count : s .count ≡ levelsOf q
-  pub at : (l : ℕ) → l < mostLevels → regionIn s l ≡ regionOr q l
-
-pub kept : (q : Layout) (s : StoredLayout) → keeps q s ≡ true → Kept q s
+-- ---- level by level is number by number
+stored-keeps : (q : Layout) → keeps q (storedOf q) ≡ true
 unfolding keeps
-kept q s e =
-    let c = eqb (s .count) (levelsOf q) in
-    let all = everyLevel (sameAt q s) mostLevels in
-    record {
-      count = eqb-true (s .count) (levelsOf q) (and-left c all e);
-      at = λ l lt. same-is (regionIn s l) (regionOr q l) (every-at (sameAt q s) mostLevels (and-right c all e) l lt);
-    }
+stored-keeps q = rw (eq-eqb (getD (storedOf q) 0 0) (levelsOf q) (stored-at q 0 (omega arith)), every-yes (sameAt q (storedOf q)) mostLevels (λ i lt. is-same (regionIn (storedOf q) i) (regionOr q i) (stored-region q i lt))) refl
 
-keep : (q : Layout) (s : StoredLayout) → Kept q s → keeps q s ≡ true
-unfolding keeps
-keep q s k = rw (eq-eqb (s .count) (levelsOf q) (k .count), every-yes (sameAt q s) mostLevels (λ l lt. is-same (regionIn s l) (regionOr q l) (k .at l lt))) refl
+module _ (r : SuperOpts) (l : List ℕ) where
+  kept : length l ≡ mostNumbers → keeps (viewOf r l) l ≡ true → l ≡ storedOf (viewOf r l)
+  unfolding keeps
+  kept long e =
+      let q = viewOf r l in
+      let n = eqb (getD l 0 0) (levelsOf q) in
+      let all = everyLevel (sameAt q l) mostLevels in
+      is-stored q l long (eqb-true (getD l 0 0) (levelsOf q) (and-left n all e)) refl refl refl (λ i lt. same-is (regionIn l i) (regionOr q i) (every-at (sameAt q l) mostLevels (and-right n all e) i lt))
 
--- what is made is kept
-pub made-kept : (q : Layout) {s : StoredLayout} → s ≡ storedOf q → keeps q s ≡ true
-made-kept q {s} e = ap (keeps q) e ∙ keep q (storedOf q)
-    (record {
-      count = refl;
-      at = λ l lt. by-region (tab-at (λ k. regionOr q k .offset) mostLevels l lt) (tab-at (λ k. regionOr q k .width) mostLevels l lt) (tab-at (λ k. regionOr q k .height) mostLevels l lt);
-    })
+  made-same : l ≡ storedOf (viewOf r l) → sameNumbers l (storedOf (viewOf r l)) ≡ true
+  made-same e = ap (sameNumbers l) (sym e) ∙ same-self l
 
--- a level that is there
-pub kept-there : (q : Layout) (s : StoredLayout) → layoutNo q ≡ 0 → keeps q s ≡ true → (l : ℕ) → l < levelsOf q → (l < mostLevels) × (regionIn s l ≡ regionAt q l)
-kept-there q s none e l lt =
-    let few : l < mostLevels = omega (arith, levels-le q (allowed q none)) in
-    (few, kept q s e .at l few ∙ region-there q l lt)
+  made-keeps : l ≡ storedOf (viewOf r l) → keeps (viewOf r l) l ≡ true
+  made-keeps e = ap (keeps (viewOf r l)) e ∙ stored-keeps (viewOf r l)
+
+  pub by-levels : length l ≡ mostNumbers → keeps (viewOf r l) l ≡ sameNumbers l (storedOf (viewOf r l))
+  by-levels long = alike (keeps (viewOf r l) l) (sameNumbers l (storedOf (viewOf r l))) (λ e. made-same (kept long e)) (λ e. made-keeps (same-numbers l (storedOf (viewOf r l)) e))
 
 -- ---- a layout that isn't refused
-pub record Passed (r : SuperOpts) (s : StoredLayout) : Type 0 where
-  pub layout : layoutNo (viewOf r s) ≡ 0
-  pub same : keeps (viewOf r s) s ≡ true
+pub record Passed (r : SuperOpts) (l : List ℕ) : Type 0 where
+  pub layout : layoutNo (viewOf r l) ≡ 0
+  pub made : l ≡ storedOf (viewOf r l)
 
-pub passed : (r : SuperOpts) (s : StoredLayout) → storedNo r s ≡ 0 → Passed r s
-unfolding storedNo isStored
-passed r s e =
-    let q = viewOf r s in
-    let is = not-false (isStored r s) (refuse-not (not (isStored r s)) 31 (then-rest (recordNo r) (refuse (not (isStored r s)) 32) e)) in
+pub stored-passed : (r : SuperOpts) (l : List ℕ) → isStored r l ≡ true → Passed r l
+unfolding isStored
+stored-passed r l is =
+    let q = viewOf r l in
+    let fine = eqb (layoutNo q) 0 in
+    let same = sameNumbers l (storedOf q) in
     record {
-      layout = eqb-true (layoutNo q) 0 (and-left (eqb (layoutNo q) 0) (keeps q s) is);
-      same = and-right (eqb (layoutNo q) 0) (keeps q s) is;
+      layout = eqb-true (layoutNo q) 0 (and-left fine same is);
+      made = same-numbers l (storedOf q) (and-right fine same is);
     }
 
-pub passes : (r : SuperOpts) (s : StoredLayout) → layoutNo (viewOf r s) ≡ 0 → keeps (viewOf r s) s ≡ true → storedNo r s ≡ 0
+pub passed : (r : SuperOpts) (l : List ℕ) → storedNo r l ≡ 0 → Passed r l
+unfolding storedNo
+passed r l e = stored-passed r l (not-false (isStored r l) (refuse-not (not (isStored r l)) 31 (then-rest (recordNo r) (refuse (not (isStored r l)) 32) e)))
+
+pub passes : (r : SuperOpts) (l : List ℕ) → Passed r l → storedNo r l ≡ 0
 unfolding storedNo isStored
-passes r s none same = rw (allowed (viewOf r s) none .good, eq-eqb (layoutNo (viewOf r s)) 0 none, same) refl
+passes r l p = rw (allowed (viewOf r l) (p .layout) .good, eq-eqb (layoutNo (viewOf r l)) 0 (p .layout), made-same r l (p .made)) refl
 
--- a level that is there, by the layout's own count
-pub record Found (r : SuperOpts) (s : StoredLayout) (l : ℕ) : Type 0 where
-  pub there : l < levelsOf (viewOf r s)
-  pub few : l < mostLevels
-  pub region : regionIn s l ≡ regionAt (viewOf r s) l
+-- such numbers have a view, and are a layout's
+pub passed-long : (r : SuperOpts) (l : List ℕ) → Passed r l → length l ≡ mostNumbers
+passed-long r l p = ap length (p .made) ∙ stored-long (viewOf r l)
 
-pub found : (r : SuperOpts) (s : StoredLayout) (l : ℕ) → storedNo r s ≡ 0 → l < s .count → Found r s l
-found r s l none lt =
-    let q = viewOf r s in
-    let p = passed r s none in
-    let there : l < levelsOf q = omega (arith, kept q s (p .same) .count) in
-    let at = kept-there q s (p .layout) (p .same) l there in
-    record { there = there; few = at .0; region = at .1 }
+pub passed-are : (r : SuperOpts) (l : List ℕ) → Passed r l → areLayout l ≡ true
+unfolding areLayout
+passed-are r l p =
+    let a = allowed (viewOf r l) (p .layout) in
+    rw (eq-eqb (length l) mostNumbers (passed-long r l p), le-leb (getD l 1 0) 1 (a .x), le-leb (getD l 2 0) 1 (a .y)) refl
+
+pub are-no : (r : SuperOpts) (l : List ℕ) → areLayout l ≡ false → isStored r l ≡ false
+are-no r l e = false-by (isStored r l) (λ yes. clash (areLayout l) (passed-are r l (stored-passed r l yes)) e)
+
+pub passed-count : (r : SuperOpts) (l : List ℕ) → Passed r l → getD l 0 0 ≡ levelsOf (viewOf r l)
+passed-count r l p = ap (λ (m : List ℕ). getD m 0 0) (p .made) ∙ stored-at (viewOf r l) 0 (omega arith)
+
+-- a level that is there
+pub record Found (r : SuperOpts) (l : List ℕ) (i : ℕ) : Type 0 where
+  pub there : i < levelsOf (viewOf r l)
+  pub few : i < mostLevels
+  pub region : regionIn l i ≡ regionAt (viewOf r l) i
+
+pub found : (r : SuperOpts) (l : List ℕ) (i : ℕ) → Passed r l → i < getD l 0 0 → Found r l i
+found r l i p lt =
+    let q = viewOf r l in
+    let there : i < levelsOf q = omega (arith, passed-count r l p) in
+    let few : i < mostLevels = omega (arith, levels-le q (allowed q (p .layout))) in
+    record { there = there; few = few; region = ap (λ (m : List ℕ). regionIn m i) (p .made) ∙ stored-region q i few ∙ region-there q i there }
 
 -- ---- "A layout handed in that isn't the one its record gives is refused": the test says yes if and only if making gives this layout
--- as the arrays of a stored layout are: one place for each level that there can be
-pub record Arrays (s : StoredLayout) : Type 0 where
-  pub offsets : length (s .offsets) ≡ mostLevels
-  pub widths : length (s .widths) ≡ mostLevels
-  pub heights : length (s .heights) ≡ mostLevels
-
-by-numbers : {x y p n m : ℕ} {o o' w w' h h' : List ℕ} → n ≡ m → o ≡ o' → w ≡ w' → h ≡ h' → _≡_ {A = StoredLayout} (record { «x_shift» = x; «y_shift» = y; pitch = p; count = n; offsets = o; widths = w; heights = h }) (record { «x_shift» = x; «y_shift» = y; pitch = p; count = m; offsets = o'; widths = w'; heights = h' })
-by-numbers a b c d = rw (a, b, c, d)
-
-is-made : (r : SuperOpts) (s : StoredLayout) → Arrays s → keeps (viewOf r s) s ≡ true → s ≡ storedOf (viewOf r s)
-is-made r s long e =
-    let q = viewOf r s in
-    let k = kept q s e in
-    by-numbers
-    (k .count)
-    (is-tab (s .offsets) (λ l. regionOr q l .offset) mostLevels (long .offsets) (λ l lt. ap (λ (x : Region). x .offset) (k .at l lt)))
-    (is-tab (s .widths) (λ l. regionOr q l .width) mostLevels (long .widths) (λ l lt. ap (λ (x : Region). x .width) (k .at l lt)))
-    (is-tab (s .heights) (λ l. regionOr q l .height) mostLevels (long .heights) (λ l lt. ap (λ (x : Region). x .height) (k .at l lt)))
-
-pub exactly : (r : SuperOpts) (s : StoredLayout) → Arrays s → (storedNo r s ≡ 0 → answer 0 s ≡ layoutAnswer (viewOf r s)) × (answer 0 s ≡ layoutAnswer (viewOf r s) → storedNo r s ≡ 0)
-exactly r s long = (there, back)
+pub exactly : (r : SuperOpts) (l : List ℕ) → (storedNo r l ≡ 0 → answer 0 l ≡ layoutAnswer (viewOf r l)) × (answer 0 l ≡ layoutAnswer (viewOf r l) → storedNo r l ≡ 0)
+exactly r l = (there, back)
   where
-    there : storedNo r s ≡ 0 → answer 0 s ≡ layoutAnswer (viewOf r s)
+    there : storedNo r l ≡ 0 → answer 0 l ≡ layoutAnswer (viewOf r l)
     there e =
-        let p = passed r s e in
-        ap (answer 0) (is-made r s long (p .same)) ∙ given (layoutNo (viewOf r s)) (storedOf (viewOf r s)) noStored (p .layout)
+        let p = passed r l e in
+        ap (answer 0) (p .made) ∙ given (layoutNo (viewOf r l)) (storedOf (viewOf r l)) noStored (p .layout)
 
-    back : answer 0 s ≡ layoutAnswer (viewOf r s) → storedNo r s ≡ 0
-    back e = passes r s (sym (number-of e)) (made-kept (viewOf r s) (value-given (storedOf (viewOf r s)) noStored e))
+    back : answer 0 l ≡ layoutAnswer (viewOf r l) → storedNo r l ≡ 0
+    back e = passes r l (record { layout = sym (number-of e); made = value-given (storedOf (viewOf r l)) noStored e })
 
--- the law of the view: what is made from record, shifts and pitch passes, and its view is what settled it
+-- what is made from record, shifts and pitch passes
 pub made-passes : (q : Layout) → layoutNo q ≡ 0 → storedNo (q .opts) (storedOf q) ≡ 0
-made-passes q none = passes (q .opts) (storedOf q) none (made-kept q refl)
+made-passes q none =
+    let v = view-stored q in
+    passes (q .opts) (storedOf q) (record { layout = ap layoutNo v ∙ none; made = ap storedOf (sym v) })

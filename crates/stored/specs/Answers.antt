@@ -1,83 +1,22 @@
--- The number and value of a call that makes, changes or takes a stored layout, and of each answer.
-use Prim.Native.Nat.{ℕ, _+_, _*_}
-use mathlib.Core.Bool.{cond}
-use mathlib.Core.List.{List, []}
-use lib.Dec.{eqb}
-use lib.ListN.{length, take, drop}
+-- The number and value of making a stored layout and of changing one.
+use Prim.Native.Nat.{ℕ}
+use mathlib.Core.List.{List}
 use Rattle.settings.specs.declared.super_opts.SuperOpts.{SuperOpts}
 use Rattle.settings.specs.Numbers.{_then_}
-use Rattle.settings.specs.Answers.{Answer, answer, ifDone, number, tested}
+use Rattle.settings.specs.Answers.{Answer, answer, ifDone, tested}
 use Rattle.layouts.specs.declared.layout.Layout.{Layout}
-use Rattle.layouts.specs.declared.layout.Needs.{Needs}
-use Rattle.layouts.specs.declared.rows.Run.{Run}
-use Rattle.layouts.specs.Layout.{widthAt, heightAt, offsetAt, rowStart, writtenEnd}
-use Rattle.layouts.specs.Margins.{cleared}
 use Rattle.layouts.specs.Refusals.{layoutNo}
-use Rattle.layouts.specs.Answers.{needsOf, noNeeds, runOf, noRun}
-use Rattle.stored.specs.declared.layout.StoredLayout.{StoredLayout}
 use Rattle.stored.specs.declared.layout.Laid.{Laid}
-use Rattle.stored.specs.declared.layout.Ended.{Ended}
-use Rattle.stored.specs.declared.layout.Ended.the-variants.{End, Refused as EndRefused}
-use Rattle.stored.specs.declared.layout.Needed.{Needed}
-use Rattle.stored.specs.declared.layout.Needed.the-variants.{Needs as Needing, Refused as NeedsRefused}
-use Rattle.stored.specs.declared.rows.Plane.{Plane}
-use Rattle.stored.specs.declared.rows.Planed.{Planed}
-use Rattle.stored.specs.declared.rows.Planed.the-variants.{At, Refused as PlaneRefused}
-use Rattle.stored.specs.Layout.{viewOf, storedOf, noStored}
-use Rattle.stored.specs.Refusals.{storedNo, frameNo, rowNo, levelPlaneNo}
+use Rattle.stored.specs.Layout.{storedOf, noStored}
+use Rattle.stored.specs.Refusals.{storedNo}
 
 -- making: "7 and 8 now come from making or changing one"
-abbrev pub layoutAnswer : Layout → Answer StoredLayout
+abbrev pub layoutAnswer : Layout → Answer (List ℕ)
 layoutAnswer q = ifDone (layoutNo q) (storedOf q) noStored
 
 -- "Changing the pitch or the shifts of a stored layout gives the layout one would get afresh": of the record r, for the shifts x, y and the pitch p
-abbrev pub changeAnswer : SuperOpts → StoredLayout → ℕ → ℕ → ℕ → Answer StoredLayout
-changeAnswer r s x y p = let q : Layout = record { opts = r; «x_shift» = x; «y_shift» = y; pitch = p } in ifDone (storedNo r s then layoutNo q) (storedOf q) noStored
+abbrev pub changeAnswer : SuperOpts → List ℕ → ℕ → ℕ → ℕ → Answer (List ℕ)
+changeAnswer r l x y p = let q : Layout = record { opts = r; «x_shift» = x; «y_shift» = y; pitch = p } in ifDone (storedNo r l then layoutNo q) (storedOf q) noStored
 
-abbrev pub endAnswer : SuperOpts → StoredLayout → Answer ℕ
-endAnswer r s = ifDone (storedNo r s) (writtenEnd (viewOf r s)) 0
-
-abbrev pub needsAnswer : SuperOpts → StoredLayout → Answer Needs
-needsAnswer r s = ifDone (storedNo r s) (needsOf (viewOf r s)) noNeeds
-
--- where row y of plane k of level l lies, in a frame of len bytes
-abbrev pub placeAnswer : SuperOpts → StoredLayout → ℕ → ℕ → ℕ → ℕ → Answer Run
-placeAnswer r s len l k y = ifDone (rowNo r s len l k y) (runOf (viewOf r s) l k y) noRun
-
--- "A row is its level's w bytes. A refused row is the empty part"
-unfoldable pub rowPart : SuperOpts → StoredLayout → List ℕ → ℕ → ℕ → ℕ → List ℕ
-rowPart r s f l k y = let q = viewOf r s in cond (eqb (rowNo r s (length f) l k y) 0) (take (widthAt q l) (drop (rowStart q l k y) f)) []
-
--- "handed out as the caller's own frame bytes, never a copy": where in the frame it starts, at its front where it is refused
-abbrev pub rowFrom : SuperOpts → StoredLayout → ℕ → ℕ → ℕ → ℕ → ℕ
-rowFrom r s len l k y = cond (eqb (rowNo r s len l k y) 0) (rowStart (viewOf r s) l k y) 0
-
--- plane k of level l: where its first row starts, its width and height, and how far its rows are apart
-abbrev pub levelPlane : Layout → ℕ → ℕ → Plane
-levelPlane q l k = record { start = offsetAt q l + k * heightAt q l * q .pitch; width = widthAt q l; height = heightAt q l; pitch = q .pitch }
-
-abbrev pub noLevelPlane : Plane
-noLevelPlane = record { start = 0; width = 0; height = 0; pitch = 0 }
-
-abbrev pub levelPlaneAnswer : SuperOpts → StoredLayout → ℕ → ℕ → ℕ → Answer Plane
-levelPlaneAnswer r s len l k = ifDone (levelPlaneNo r s len l k) (levelPlane (viewOf r s) l k) noLevelPlane
-
--- clearing margins, with the frame that it leaves: "no refusal changes a lent byte"
-abbrev pub clearAnswer : SuperOpts → StoredLayout → List ℕ → Answer (List ℕ)
-clearAnswer r s f = ifDone (frameNo r s (length f)) (cleared (viewOf r s) f) f
-
--- ---- the answers
-abbrev pub laid : Laid → Answer StoredLayout
+abbrev pub laid : Laid → Answer (List ℕ)
 laid a = answer (tested (a .tested)) (a .layout)
-
-abbrev pub ended : Ended → Answer ℕ
-ended (End n) = answer 0 n
-ended (EndRefused f) = answer (number f) 0
-
-abbrev pub needed : Needed → Answer Needs
-needed (Needing n) = answer 0 n
-needed (NeedsRefused f) = answer (number f) noNeeds
-
-abbrev pub planed : Planed → Answer Plane
-planed (At p) = answer 0 p
-planed (PlaneRefused f) = answer (number f) noLevelPlane

@@ -1,7 +1,8 @@
--- Document 02, order 5: a plane's layout, stored.
--- First the view of it that document 01's rules go by; then what making gives; last which layout is the one its record gives.
-use Prim.Native.Nat.{ℕ, zero, suc}
-use mathlib.Core.Bool.{Bool, true, _&&_}
+-- Document 02, order 5: a plane's layout, stored as a run of numbers.
+-- First what making gives; then the view of such numbers that document 01's rules go by; last which are the layout that their record gives.
+use Prim.Native.Nat.{ℕ, zero, suc, _+_, _*_, _/_, _%_}
+use mathlib.Core.Bool.{Bool, true, false, _&&_}
+use mathlib.Core.List.{List, [], _∷_}
 use lib.Dec.{eqb}
 use lib.ListN.{getD, replicate}
 use Rattle.settings.specs.declared.super_opts.SuperOpts.{SuperOpts}
@@ -11,57 +12,42 @@ use Rattle.layouts.specs.declared.layout.Layout.{Layout}
 use Rattle.layouts.specs.declared.layout.Region.{Region}
 use Rattle.layouts.specs.Layout.{levelsOf, regionOr}
 use Rattle.layouts.specs.Refusals.{layoutNo}
-use Rattle.stored.specs.declared.layout.StoredLayout.{StoredLayout}
 
--- the record that stands beside it, and its own shifts and pitch
-abbrev pub viewOf : SuperOpts → StoredLayout → Layout
-viewOf r s = record { opts = r; «x_shift» = s .«x_shift»; «y_shift» = s .«y_shift»; pitch = s .pitch }
+-- ---- "Put offset, width and height of each level into a stored layout, made once from record, shifts and pitch"
+-- a level's three numbers
+abbrev pub regionNumber : Region → ℕ → ℕ
+regionNumber t zero = t .offset
+regionNumber t (suc zero) = t .width
+regionNumber t (suc (suc k)) = t .height
 
--- "Put offset, width and height of each level into a stored layout, made once from record, shifts and pitch"; zeros past the last
-abbrev pub storedOf : Layout → StoredLayout
-storedOf q =
-    record {
-      «x_shift» = q .«x_shift»;
-      «y_shift» = q .«y_shift»;
-      pitch = q .pitch;
-      count = levelsOf q;
-      offsets = tab (λ l. regionOr q l .offset) mostLevels;
-      widths = tab (λ l. regionOr q l .width) mostLevels;
-      heights = tab (λ l. regionOr q l .height) mostLevels;
-    }
+-- the number at place k: the count of levels, the shifts and the pitch; then those of each level next to each other, zeros past the last
+abbrev pub numberAt : Layout → ℕ → ℕ
+numberAt q zero = levelsOf q
+numberAt q (suc zero) = q .«x_shift»
+numberAt q (suc (suc zero)) = q .«y_shift»
+numberAt q (suc (suc (suc zero))) = q .pitch
+numberAt q (suc (suc (suc (suc k)))) = regionNumber (regionOr q (k / 3)) (k % 3)
+
+abbrev pub mostNumbers : ℕ
+mostNumbers = 4 + 3 * mostLevels
+
+unfoldable pub storedOf : Layout → List ℕ
+storedOf q = tab (numberAt q) mostNumbers
 
 -- "a refused .. layout zeros"
-abbrev pub noStored : StoredLayout
-noStored =
-    record {
-      «x_shift» = 0;
-      «y_shift» = 0;
-      pitch = 0;
-      count = 0;
-      offsets = replicate mostLevels 0;
-      widths = replicate mostLevels 0;
-      heights = replicate mostLevels 0;
-    }
+abbrev pub noStored : List ℕ
+noStored = replicate mostNumbers 0
 
--- ---- "the one its record gives": number for number what making gives, for its own shifts and pitch (`exactly` of proofs/Exact.antt)
--- level l's region, as the layout has it
-abbrev pub regionIn : StoredLayout → ℕ → Region
-regionIn s l = record { offset = getD (s .offsets) l 0; width = getD (s .widths) l 0; height = getD (s .heights) l 0 }
+-- ---- the record that stands beside them, and their own shifts and pitch
+abbrev pub viewOf : SuperOpts → List ℕ → Layout
+viewOf r l = record { opts = r; «x_shift» = getD l 1 0; «y_shift» = getD l 2 0; pitch = getD l 3 0 }
 
-abbrev pub sameRegion : Region → Region → Bool
-sameRegion a b = eqb (a .offset) (b .offset) && eqb (a .width) (b .width) && eqb (a .height) (b .height)
+-- ---- "the one its record gives": number for number what making gives, for its own shifts and pitch
+unfoldable pub sameNumbers : List ℕ → List ℕ → Bool
+sameNumbers [] [] = true
+sameNumbers [] (b ∷ m) = false
+sameNumbers (a ∷ l) [] = false
+sameNumbers (a ∷ l) (b ∷ m) = eqb a b && sameNumbers l m
 
--- each of the first n
-unfoldable pub everyLevel : (ℕ → Bool) → ℕ → Bool
-everyLevel test zero = true
-everyLevel test (suc n) = everyLevel test n && test n
-
--- zeros where there is no such level
-abbrev pub sameAt : Layout → StoredLayout → ℕ → Bool
-sameAt q s l = sameRegion (regionIn s l) (regionOr q l)
-
-unfoldable pub keeps : Layout → StoredLayout → Bool
-keeps q s = eqb (s .count) (levelsOf q) && everyLevel (sameAt q s) mostLevels
-
-unfoldable pub isStored : SuperOpts → StoredLayout → Bool
-isStored r s = let q = viewOf r s in eqb (layoutNo q) 0 && keeps q s
+unfoldable pub isStored : SuperOpts → List ℕ → Bool
+isStored r l = let q = viewOf r l in eqb (layoutNo q) 0 && sameNumbers l (storedOf q)

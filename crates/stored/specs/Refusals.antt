@@ -1,40 +1,11 @@
--- Document 02, order 5: "32 the layout isn't the record's, after 6", and the numbers after it, in order, for each call that takes a stored layout.
--- First the layout's own; then those of a frame, of a row and of a level's plane in it; last a build's, by what it is lent.
+-- Document 02, order 5: "32 the layout isn't the record's, after 6".
 use Prim.Native.Nat.{ℕ}
-use mathlib.Core.Bool.{Bool, not, _||_}
-use lib.Dec.{ltb, leb}
+use mathlib.Core.Bool.{not}
+use mathlib.Core.List.{List}
 use Rattle.settings.specs.declared.super_opts.SuperOpts.{SuperOpts}
 use Rattle.settings.specs.Numbers.{refuse, _then_}
 use Rattle.settings.specs.Check.{recordNo}
-use Rattle.layouts.specs.declared.layout.Layout.{Layout}
-use Rattle.layouts.specs.Layout.{levelsOf, widthAt, storedAt, writtenEnd}
-use Rattle.layouts.specs.Refusals.{badPitch, noRow, lentNo}
-use Rattle.stored.specs.declared.layout.StoredLayout.{StoredLayout}
-use Rattle.stored.specs.Layout.{viewOf, isStored}
+use Rattle.stored.specs.Layout.{isStored}
 
--- the written end and the needs
-unfoldable pub storedNo : SuperOpts → StoredLayout → ℕ
-storedNo r s = recordNo r then refuse (not (isStored r s)) 32
-
--- clearing margins, in a frame of len bytes
-unfoldable pub frameNo : SuperOpts → StoredLayout → ℕ → ℕ
-frameNo r s len = storedNo r s then refuse (ltb len (writtenEnd (viewOf r s))) 11
-
--- a row
-unfoldable pub rowNo : SuperOpts → StoredLayout → ℕ → ℕ → ℕ → ℕ → ℕ
-rowNo r s len l k y = frameNo r s len then refuse (noRow (viewOf r s) l k y) 19
-
--- "no such level, plane .. is stored"
-abbrev pub noPlane : Layout → ℕ → ℕ → Bool
-noPlane q l k = leb (levelsOf q) l || leb (storedAt q l) k
-
--- a level's plane
-unfoldable pub levelPlaneNo : SuperOpts → StoredLayout → ℕ → ℕ → ℕ → ℕ
-levelPlaneNo r s len l k = frameNo r s len then refuse (noPlane (viewOf r s) l k) 19
-
--- building
-unfoldable pub storedBuildNo : SuperOpts → StoredLayout → ℕ → ℕ → ℕ → ℕ → ℕ → ℕ
-storedBuildNo r s n sp len spill scratch =
-    storedNo r s
-    then refuse (badPitch sp (widthAt (viewOf r s) 0)) 9
-    then lentNo (viewOf r s) n sp len spill scratch
+unfoldable pub storedNo : SuperOpts → List ℕ → ℕ
+storedNo r l = recordNo r then refuse (not (isStored r l)) 32

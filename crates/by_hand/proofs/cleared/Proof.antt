@@ -8,14 +8,20 @@ use Rattle.by_hand.proofs.cleared.Tie as tie
 returns : tie.Need-returns
 returns c = search needs
 
+made-requires : tie.Need-made-requires
+made-requires c κs = search needs
+
 slice-relend-prefix-clear-margins : tie.Need-slice-relend-prefix-clear-margins
 slice-relend-prefix-clear-margins c = search needs
 
 slice-aggregate-clear-margins : tie.Need-slice-aggregate-clear-margins
-slice-aggregate-clear-margins c = let a = c .before .before .before in sym (length-take-le (a .args .len) (a .args .frame .now) (c .before .if1 .left))
+slice-aggregate-clear-margins c =
+    let long = c .before .before in
+    let a = long .before .before in
+    sym (length-take-le (a .args .len) (a .args .frame .now) (long .if1 .left))
 
-made-requires : tie.Need-made-requires
-made-requires c κs = search needs
+slice-aggregate-clear-margins-2 : tie.Need-slice-aggregate-clear-margins-2
+slice-aggregate-clear-margins-2 c = search needs
 
 clear-margins-requires : tie.Need-clear-margins-requires
 clear-margins-requires c κs = search needs
@@ -34,9 +40,10 @@ cleared-spec =
     tie.close
     (tie.spec
     returns
+    made-requires
     slice-relend-prefix-clear-margins
     slice-aggregate-clear-margins
-    made-requires
+    slice-aggregate-clear-margins-2
     clear-margins-requires
     number-requires
     same-length

@@ -4,8 +4,6 @@ use Prim.Native.Nat.{ℕ}
 use denote.Ref.{now}
 use Rattle.settings.specs.declared.super_opts.SuperOpts.{SuperOpts}
 use Rattle.settings.specs.Answers.{answer}
-use Rattle.stored.specs.declared.layout.StoredLayout.{StoredLayout}
-use Rattle.answers.specs.Fields.{recordOf}
 use Rattle.stored.specs.Layout.{viewOf}
 use Rattle.planes.specs.Build.{planeNo, buildAnswer, lentAfter}
 use borrow.Author.Needs.{needs}
@@ -14,9 +12,6 @@ use Rattle.exports.proofs.plane.sill_build_plane.Tie as tie
 
 record-of-requires : tie.Need-record-of-requires
 record-of-requires c κs = search needs
-
-layout-from-requires : tie.Need-layout-from-requires
-layout-from-requires c κs = search needs
 
 build-plane-requires : tie.Need-build-plane-requires
 build-plane-requires c κs = search needs
@@ -34,29 +29,24 @@ same-length-3 : tie.Need-same-length-3
 same-length-3 c = search needs
 
 returns : tie.Need-returns
-returns c =
-    let m = c .before .before .before .before .before .before .before in
-    let s = c .before .before .before .before .before .before .before .before .before .before .before .layout-from in
-    let r = c .before .before .before .before .before .before .before .before .before .before .before .before .record-of in
-    let a = c .before .before .before .before .before .before .before .before .before .before .before .before .before .before .before .before .before .before .args in
+returns c = let m = c .before .before .before .before .before .before .before in
+    let r = m .before .before .before .before .record-of in
+    let a = m .before .before .before .before .before .before .before .before .before .before .args in
+    let l = now (a .layout) in
     let src = now (a .src) in
     let F = now (a .frame) in
     let S = now (a .spill) in
     let X = now (a .scratch) in
-    let no = c .number .ensures in
-    let R = recordOf (now (a .fields)) in (
+    let no = c .number .ensures in (
       ap (λ (n : ℕ). answer n (m .build-plane .last .0)) no
           ∙ m .build-plane .ensures .0
-          ∙ ap (λ (x : SuperOpts). buildAnswer (planeNo x (s .result) src (a .src-pitch) F S X) (viewOf x (s .result)) src (a .src-pitch) F) (r .ensures)
-          ∙ ap (λ (x : StoredLayout). buildAnswer (planeNo R x src (a .src-pitch) F S X) (viewOf R x) src (a .src-pitch) F) (s .ensures),
+          ∙ ap (λ (x : SuperOpts). buildAnswer (planeNo x l src (a .src-pitch) F S X) (viewOf x l) src (a .src-pitch) F) (r .ensures),
       ap (λ (n : ℕ). answer n (m .build-plane .last .1 .0)) no
           ∙ m .build-plane .ensures .1
-          ∙ ap (λ (x : SuperOpts). lentAfter (planeNo x (s .result) src (a .src-pitch) F S X) S) (r .ensures)
-          ∙ ap (λ (x : StoredLayout). lentAfter (planeNo R x src (a .src-pitch) F S X) S) (s .ensures),
+          ∙ ap (λ (x : SuperOpts). lentAfter (planeNo x l src (a .src-pitch) F S X) S) (r .ensures),
       ap (λ (n : ℕ). answer n (m .build-plane .last .1 .1 .0)) no
           ∙ m .build-plane .ensures .2
-          ∙ ap (λ (x : SuperOpts). lentAfter (planeNo x (s .result) src (a .src-pitch) F S X) X) (r .ensures)
-          ∙ ap (λ (x : StoredLayout). lentAfter (planeNo R x src (a .src-pitch) F S X) X) (s .ensures),
+          ∙ ap (λ (x : SuperOpts). lentAfter (planeNo x l src (a .src-pitch) F S X) X) (r .ensures),
     )
 
 pub sill-build-plane-spec : {M : Type 1} → statement M
@@ -64,7 +54,6 @@ sill-build-plane-spec =
     tie.close
     (tie.spec
     record-of-requires
-    layout-from-requires
     build-plane-requires
     number-requires
     same-length

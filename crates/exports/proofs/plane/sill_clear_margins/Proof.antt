@@ -4,18 +4,13 @@ use Prim.Native.Nat.{ℕ}
 use denote.Ref.{now}
 use Rattle.settings.specs.declared.super_opts.SuperOpts.{SuperOpts}
 use Rattle.settings.specs.Answers.{answer}
-use Rattle.stored.specs.declared.layout.StoredLayout.{StoredLayout}
-use Rattle.answers.specs.Fields.{recordOf}
-use Rattle.stored.specs.Answers.{clearAnswer}
+use Rattle.lookups.specs.Answers.{clearAnswer}
 use borrow.Author.Needs.{needs}
 use Rattle.exports.proofs.plane.sill_clear_margins.Statement.{statement}
 use Rattle.exports.proofs.plane.sill_clear_margins.Tie as tie
 
 record-of-requires : tie.Need-record-of-requires
 record-of-requires c κs = search needs
-
-layout-from-requires : tie.Need-layout-from-requires
-layout-from-requires c κs = search needs
 
 clear-margins-requires : tie.Need-clear-margins-requires
 clear-margins-requires c κs = search needs
@@ -27,23 +22,11 @@ same-length : tie.Need-same-length
 same-length c = search needs
 
 returns : tie.Need-returns
-returns c =
-    let m = c .before .before .before in
-    let s = c .before .before .before .before .before .layout-from in
-    let r = c .before .before .before .before .before .before .record-of in
-    let a = c .before .before .before .before .before .before .before .before .before .args in
-    ap (λ (n : ℕ). answer n (m .clear-margins .last .0)) (c .number .ensures)
-    ∙ m .clear-margins .ensures
-    ∙ ap (λ (x : SuperOpts). clearAnswer x (s .result) (now (a .frame))) (r .ensures)
-    ∙ ap (λ (x : StoredLayout). clearAnswer (recordOf (now (a .fields))) x (now (a .frame))) (s .ensures)
+returns c = let m = c .before .before .before in
+    let a = m .before .before .before .before .before .args in
+    ap (λ (n : ℕ). answer n (m .clear-margins .last .0)) (c .number .ensures) ∙ m .clear-margins .ensures ∙ ap (λ (x : SuperOpts). clearAnswer x (now (a .layout)) (now (a .frame))) (m .before .record-of .ensures)
 
 pub sill-clear-margins-spec : {M : Type 1} → statement M
 sill-clear-margins-spec =
     tie.close
-    (tie.spec
-    record-of-requires
-    layout-from-requires
-    clear-margins-requires
-    number-requires
-    same-length
-    returns)
+    (tie.spec record-of-requires clear-margins-requires number-requires same-length returns)

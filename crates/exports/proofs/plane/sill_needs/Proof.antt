@@ -3,13 +3,11 @@ use mathlib.Core.Path.{refl, sym, ap, _∙_}
 use denote.Ref.{now}
 use Rattle.settings.specs.declared.super_opts.SuperOpts.{SuperOpts}
 use Rattle.settings.proofs.Known.{number-of}
-use Rattle.stored.specs.declared.layout.StoredLayout.{StoredLayout}
-use Rattle.stored.specs.Layout.{viewOf}
-use Rattle.answers.specs.Fields.{recordOf}
-use Rattle.answers.proofs.Telling.{tell-refused, tell-given}
 use Rattle.layouts.specs.Answers.{needsOf, noNeeds}
-use Rattle.stored.specs.Answers.{needed}
+use Rattle.stored.specs.Layout.{viewOf}
+use Rattle.lookups.specs.Answers.{needed}
 use Rattle.answers.specs.Fields.{needNumbers}
+use Rattle.answers.proofs.Telling.{tell-refused, tell-given}
 use Rattle.exports.specs.Calls.{needsTells}
 use borrow.Author.Needs.{needs}
 use Rattle.exports.proofs.plane.sill_needs.Statement.{statement}
@@ -17,9 +15,6 @@ use Rattle.exports.proofs.plane.sill_needs.Tie as tie
 
 record-of-requires : tie.Need-record-of-requires
 record-of-requires c κs = search needs
-
-layout-from-requires : tie.Need-layout-from-requires
-layout-from-requires c κs = search needs
 
 needs-requires : tie.Need-needs-requires
 needs-requires c κs = search needs
@@ -46,31 +41,24 @@ same-length : tie.Need-same-length
 same-length c = search needs
 
 returns : tie.Need-returns
-returns c =
-    let m = c .before .before .before .before .before .before .before .before .before in
-    let r = m .before .before .record-of .result in
-    let s = m .before .layout-from .result in
-    let a = m .before .before .before .before .before .args in
-    tell-given needNumbers (now (a .needs)) (needsOf (viewOf r s)) noNeeds (sym (ap needed (c .before .before .before .before .before .before .before .n .given .1)) ∙ m .needs .ensures) (c .before .before .before .before .need-numbers .ensures) (c .before .before .put-sizes .ensures)
-    ∙ ap (λ (x : SuperOpts). needsTells x s (now (a .needs))) (m .before .before .record-of .ensures)
-    ∙ ap (λ (x : StoredLayout). needsTells (recordOf (now (a .fields))) x (now (a .needs))) (m .before .layout-from .ensures)
+returns c = let m = c .before .before .before .before .before .before .before .before .before in
+    let r = m .before .record-of .result in
+    let a = m .before .before .before .before .args in
+    tell-given needNumbers (now (a .needs)) (needsOf (viewOf r (now (a .layout)))) noNeeds (sym (ap needed (c .before .before .before .before .before .before .before .n .given .1)) ∙ m .needs .ensures) (c .before .before .before .before .need-numbers .ensures) (c .before .before .put-sizes .ensures)
+    ∙ ap (λ (x : SuperOpts). needsTells x (now (a .layout)) (now (a .needs))) (m .before .record-of .ensures)
 
 returns-2 : tie.Need-returns-2
-returns-2 c =
-    let m = c .before .before .before .before in
-    let r = m .before .before .record-of .result in
-    let s = m .before .layout-from .result in
-    let a = m .before .before .before .before .before .args in
-    tell-refused (c .before .before .f .given .0 .0) (needNumbers (needsOf (viewOf r s))) (now (a .needs)) (number-of (sym (ap needed (c .before .before .f .given .1)) ∙ m .needs .ensures)) (c .lowest .ensures) refl
-    ∙ ap (λ (x : SuperOpts). needsTells x s (now (a .needs))) (m .before .before .record-of .ensures)
-    ∙ ap (λ (x : StoredLayout). needsTells (recordOf (now (a .fields))) x (now (a .needs))) (m .before .layout-from .ensures)
+returns-2 c = let m = c .before .before .before .before in
+    let r = m .before .record-of .result in
+    let a = m .before .before .before .before .args in
+    tell-refused (c .before .before .f .given .0 .0) (needNumbers (needsOf (viewOf r (now (a .layout))))) (now (a .needs)) (number-of (sym (ap needed (c .before .before .f .given .1)) ∙ m .needs .ensures)) (c .lowest .ensures) refl
+    ∙ ap (λ (x : SuperOpts). needsTells x (now (a .layout)) (now (a .needs))) (m .before .record-of .ensures)
 
 pub sill-needs-spec : {M : Type 1} → statement M
 sill-needs-spec =
     tie.close
     (tie.spec
     record-of-requires
-    layout-from-requires
     needs-requires
     enum-known-n
     need-numbers-requires

@@ -3,14 +3,12 @@ use mathlib.Core.Path.{refl, sym, ap, _∙_}
 use denote.Ref.{now}
 use Rattle.settings.specs.declared.super_opts.SuperOpts.{SuperOpts}
 use Rattle.settings.proofs.Known.{number-of}
-use Rattle.stored.specs.declared.layout.StoredLayout.{StoredLayout}
-use Rattle.stored.specs.Layout.{viewOf}
-use Rattle.answers.specs.Fields.{recordOf}
-use Rattle.answers.proofs.Telling.{tell-refused, tell-given}
 use mathlib.Core.List.{[], _∷_}
 use Prim.Native.Nat.{ℕ}
 use Rattle.layouts.specs.Layout.{writtenEnd}
-use Rattle.stored.specs.Answers.{ended}
+use Rattle.stored.specs.Layout.{viewOf}
+use Rattle.lookups.specs.Answers.{ended}
+use Rattle.answers.proofs.Telling.{tell-refused, tell-given}
 use Rattle.exports.specs.Calls.{endTells}
 use borrow.Author.Needs.{needs}
 use Rattle.exports.proofs.plane.sill_written_end.Statement.{statement}
@@ -18,9 +16,6 @@ use Rattle.exports.proofs.plane.sill_written_end.Tie as tie
 
 record-of-requires : tie.Need-record-of-requires
 record-of-requires c κs = search needs
-
-layout-from-requires : tie.Need-layout-from-requires
-layout-from-requires c κs = search needs
 
 written-end-requires : tie.Need-written-end-requires
 written-end-requires c κs = search needs
@@ -44,31 +39,24 @@ same-length : tie.Need-same-length
 same-length c = search needs
 
 returns : tie.Need-returns
-returns c =
-    let m = c .before .before .before .before .before .before .before .before in
-    let r = m .before .before .record-of .result in
-    let s = m .before .layout-from .result in
-    let a = m .before .before .before .before .before .args in
-    tell-given (λ (n : ℕ). n ∷ []) (now (a .end)) (writtenEnd (viewOf r s)) 0 (sym (ap ended (c .before .before .before .before .before .before .n .given .1)) ∙ m .written-end .ensures) (refl) (c .before .before .put-sizes .ensures)
-    ∙ ap (λ (x : SuperOpts). endTells x s (now (a .end))) (m .before .before .record-of .ensures)
-    ∙ ap (λ (x : StoredLayout). endTells (recordOf (now (a .fields))) x (now (a .end))) (m .before .layout-from .ensures)
+returns c = let m = c .before .before .before .before .before .before .before .before in
+    let r = m .before .record-of .result in
+    let a = m .before .before .before .before .args in
+    tell-given (λ (n : ℕ). n ∷ []) (now (a .end)) (writtenEnd (viewOf r (now (a .layout)))) 0 (sym (ap ended (c .before .before .before .before .before .before .n .given .1)) ∙ m .written-end .ensures) refl (c .before .before .put-sizes .ensures)
+    ∙ ap (λ (x : SuperOpts). endTells x (now (a .layout)) (now (a .end))) (m .before .record-of .ensures)
 
 returns-2 : tie.Need-returns-2
-returns-2 c =
-    let m = c .before .before .before .before in
-    let r = m .before .before .record-of .result in
-    let s = m .before .layout-from .result in
-    let a = m .before .before .before .before .before .args in
-    tell-refused (c .before .before .f .given .0 .0) (writtenEnd (viewOf r s) ∷ []) (now (a .end)) (number-of (sym (ap ended (c .before .before .f .given .1)) ∙ m .written-end .ensures)) (c .lowest .ensures) refl
-    ∙ ap (λ (x : SuperOpts). endTells x s (now (a .end))) (m .before .before .record-of .ensures)
-    ∙ ap (λ (x : StoredLayout). endTells (recordOf (now (a .fields))) x (now (a .end))) (m .before .layout-from .ensures)
+returns-2 c = let m = c .before .before .before .before in
+    let r = m .before .record-of .result in
+    let a = m .before .before .before .before .args in
+    tell-refused (c .before .before .f .given .0 .0) (writtenEnd (viewOf r (now (a .layout))) ∷ []) (now (a .end)) (number-of (sym (ap ended (c .before .before .f .given .1)) ∙ m .written-end .ensures)) (c .lowest .ensures) refl
+    ∙ ap (λ (x : SuperOpts). endTells x (now (a .layout)) (now (a .end))) (m .before .record-of .ensures)
 
 pub sill-written-end-spec : {M : Type 1} → statement M
 sill-written-end-spec =
     tie.close
     (tie.spec
     record-of-requires
-    layout-from-requires
     written-end-requires
     enum-known-n
     slice-aggregate-put-sizes

@@ -7,12 +7,14 @@ use Rattle.settings.specs.Answers.{answer, tested}
 use Rattle.settings.proofs.Known.{given, refused}
 use Rattle.layouts.specs.declared.layout.Layout.{Layout}
 use Rattle.stored.specs.Layout.{viewOf}
+use Rattle.stored.proofs.Exact.{passed-are, passed as fine}
+use Rattle.lookups.proofs.Numbers.{build-stored}
 use Rattle.planes.specs.Build.{frameBy, planeNo}
 use Rattle.planes.proofs.Whole.{ready-stored, lent-zeroed}
 use Rattle.planes.proofs.build.build_plane_by.Statement.{statement}
 use Rattle.planes.proofs.build.build_plane_by.Tie as tie
 
-passed : (c : tie.After-enum-told) → planeNo (c .before .before .before .before .before .before .before .args .opts) (c .before .before .before .before .before .before .before .args .layout) (now (c .before .before .before .before .before .before .before .args .src)) (c .before .before .before .before .before .before .before .args .src-pitch) (now (c .before .before .before .before .before .before .before .args .frame)) (now (c .before .before .before .before .before .before .before .args .spill)) (now (c .before .before .before .before .before .before .before .args .scratch)) ≡ 0
+passed : (c : tie.After-enum-told) → planeNo (c .before .before .before .before .before .before .before .before .args .opts) (now (c .before .before .before .before .before .before .before .before .args .layout)) (now (c .before .before .before .before .before .before .before .before .args .src)) (c .before .before .before .before .before .before .before .before .args .src-pitch) (now (c .before .before .before .before .before .before .before .before .args .frame)) (now (c .before .before .before .before .before .before .before .before .args .spill)) (now (c .before .before .before .before .before .before .before .before .args .scratch)) ≡ 0
 passed c = sym (c .before .before .build-tested .ensures) ∙ ap tested (c .enum-told .given .1)
 
 build-tested-requires : tie.Need-build-tested-requires
@@ -26,19 +28,19 @@ enum-told-2 c = search needs
 
 returns : tie.Need-returns
 returns c =
-    let a = c .before .before .before .before .before .before .before .args in
+    let a = c .before .before .before .before .before .before .before .before .args in
     let told = c .enum-told2 .given in
     let src = now (a .src) in
     let F = now (a .frame) in
     let S = now (a .spill) in
     let X = now (a .scratch) in
-    let n = planeNo (a .opts) (a .layout) src (a .src-pitch) F S X in
+    let n = planeNo (a .opts) (now (a .layout)) src (a .src-pitch) F S X in
     let e = sym (ap tested (told .1)) ∙ c .before .before .build-tested .ensures in
     rw (told .1)
-    (refused n (told .0 .0) (frameBy (a .fuse) (viewOf (a .opts) (a .layout)) src (a .src-pitch) F) F e, refused n (told .0 .0) (replicate (length S) 0) S e, refused n (told .0 .0) (replicate (length X) 0) X e)
+    (refused n (told .0 .0) (frameBy (a .fuse) (viewOf (a .opts) (now (a .layout))) src (a .src-pitch) F) F e, refused n (told .0 .0) (replicate (length S) 0) S e, refused n (told .0 .0) (replicate (length X) 0) X e)
 
 view-requires : tie.Need-view-requires
-view-requires c κs = tt
+view-requires c κs = passed-are _ _ (fine _ _ (build-stored _ _ _ _ _ _ _ (passed c)))
 
 build-spilled-requires : tie.Need-build-spilled-requires
 build-spilled-requires c κs = rw (c .before .before .before .view .ensures) (ready-stored _ _ _ _ _ _ _ (passed (c .before .before .before .before)))
@@ -66,15 +68,15 @@ returns-2 c =
     let at-build-spilled = at-zero-row .before .before .before .before .before .before .before .before in
     let at-view = at-build-spilled .before .before .before .before in
     let at-told = at-view .before in
-    let a = at-told .before .before .before .before .before .before .before .args in
+    let a = at-told .before .before .before .before .before .before .before .before .args in
     let src = now (a .src) in
     let F = now (a .frame) in
     let S = now (a .spill) in
     let X = now (a .scratch) in
-    let n = planeNo (a .opts) (a .layout) src (a .src-pitch) F S X in
+    let n = planeNo (a .opts) (now (a .layout)) src (a .src-pitch) F S X in
     let e = passed at-told in
     let k = at-build-spilled .build-spilled .kept .1 in
-    (ap (answer 0) (at-build-spilled .build-spilled .ensures ∙ ap (λ (q : Layout). frameBy (a .fuse) q src (a .src-pitch) F) (at-view .view .ensures)) ∙ given n (frameBy (a .fuse) (viewOf (a .opts) (a .layout)) src (a .src-pitch) F) F e, lent-zeroed n _ S _ (at-zero-row .zero-row .ensures) (k .1 .0) e, lent-zeroed n _ X _ (at-zero-row2 .zero-row2 .ensures) (k .1 .1 .0) e)
+    (ap (answer 0) (at-build-spilled .build-spilled .ensures ∙ ap (λ (q : Layout). frameBy (a .fuse) q src (a .src-pitch) F) (at-view .view .ensures)) ∙ given n (frameBy (a .fuse) (viewOf (a .opts) (now (a .layout))) src (a .src-pitch) F) F e, lent-zeroed n _ S _ (at-zero-row .zero-row .ensures) (k .1 .0) e, lent-zeroed n _ X _ (at-zero-row2 .zero-row2 .ensures) (k .1 .1 .0) e)
 
 pub build-plane-by-spec : {M : Type 1} → statement M
 build-plane-by-spec =
