@@ -47,9 +47,8 @@
    Layouts. A plane of the picture is laid out by a record, two shifts and a pitch: its level k has (width >> x_shift) by
    (height >> y_shift) bytes, width and height being level k's. A shift is 0 for a plane of the picture's own size and 1 for one of
    half its width or height. Rows of a frame begin pitch bytes apart; the least pitch goes by the plane's own width, at level 1 also
-   where there is no such level. Where the pitch is below level 0's width raised to a multiple of 16,
-   the planes between may run over into the first bytes of what follows them, another plane or level 1, as in the Rust; so bytes of rows
-   go by the pitch.
+   where there is no such level. Where the pitch is below level 0's width raised to a multiple of 16, the planes between may run over
+   into the first bytes of what follows them, another plane or level 1, as in the Rust; so bytes of rows go by the pitch.
    A layout is SILL_COUNT_LAYOUT numbers: the count of levels, the two shifts, the pitch, then for each of SILL_MOST_LEVELS levels its
    offset, width and height, zeros past the last level. sill_layout makes it once; the calls about that plane take it, beside its
    record, in place of shifts and pitch. Each plane of a level takes height * pitch bytes, one after another from the level's offset; of
@@ -138,7 +137,7 @@ enum {
 };
 
 /* The places of a layout: the count of levels, the shifts and the pitch; then level 0's offset, width and height, and those of level k
-   k * SILL_LAYOUT_STEP places further on. */
+   k * SILL_LAYOUT_STEP places further on, for SILL_MOST_LEVELS levels. */
 enum {
     SILL_MOST_LEVELS = 13,
     SILL_LAYOUT_LEVELS = 0,

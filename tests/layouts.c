@@ -15,7 +15,7 @@ static layout shifted(layout l, uint32_t x, uint32_t y, size_t pitch) {
     return l;
 }
 
-/* Every count of stored planes and rows that a layout's numbers go by: 0, 1, 2, 4 and 13 levels, full and not, each pel and shift. */
+/* Every count of stored planes and rows that a layout's numbers go by: 0, 1, 2, 3, 4 and 13 levels, full and not, each pel, shifts of 0 and of 1. */
 static void samples(void) {
     layout all[SAMPLES] = {
         laid(2, 1, 0, 1, 64, 48, 64), laid(1, 1, 0, 0, 64, 48, 32), shifted(laid(4, 0, 1, 1, 24, 16, 24), 1, 0, 13), shifted(laid(1, 0, 0, 1, 17, 9, 17), 1, 1, 8),

@@ -1,4 +1,4 @@
--- The numbers that a call takes or tells, and what they stand for: settings, a record, what a word tells, what a build needs, where a level's plane lies, and where the parts of a frame lie.
+-- The numbers that a call takes or tells, and what they stand for: settings, a record, what a word tells, where a level's plane lies, what a build needs, and where the parts of a frame lie.
 use mathlib.Core.Bool.{Bool, true, false, cond, not, _&&_, _||_}
 use mathlib.Core.List.{List, [], _∷_, _++_}
 use Prim.Native.Nat.{ℕ, _/_, _%_, _^_}

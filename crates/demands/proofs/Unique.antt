@@ -1,4 +1,4 @@
--- One outcome: no second answer, row, frame, spill or scratch meets the contract of a public call (`OneOutcome`), by one law (`determined`). The calls of `settings` and `longhands`, proved there, are named among the imports; then come the rows of `filters`, the inner calls of `settings`, `layouts`, `stored` and `builder`, and last the public calls of `stored` and `planes`, `build_plane` by the inner call that it makes. docs/EXCEPTIONS.md has those that aren't here. Assumes nothing.
+-- One outcome: no second answer, row, frame, spill or scratch meets the contract of a public call (`OneOutcome`), by one law (`determined`). The calls of `settings` and `longhands`, proved there, are named among the imports; then come the rows of `filters`, the inner calls of `settings`, `layouts`, `stored`, `lookups` and `builder`, and last the public calls of `stored`, `lookups` and `planes`, `build_plane` by the inner call that it makes. docs/EXCEPTIONS.md has those that aren't here. Assumes nothing.
 use mathlib.Core.Bool.{true}
 use mathlib.Core.List.{List}
 use Prim.Native.Nat.{ℕ}
@@ -45,6 +45,7 @@ use Rattle.layouts.proofs.lent.spill_need.Reads as spill-need-reads
 use Rattle.layouts.proofs.lent.source_need.Reads as source-need-reads
 use Rattle.layouts.proofs.lent.scratch_need.Reads as scratch-need-reads
 use Rattle.lookups.proofs.lent.build_tested.Reads as build-tested-reads
+use Rattle.layouts.proofs.levels.least_pitch.Reads as least-pitch-reads
 use Rattle.layouts.proofs.levels.bad_pitch.Reads as bad-pitch-reads
 use Rattle.layouts.proofs.rows.row_in.Reads as row-in-reads
 use Rattle.layouts.proofs.rows.hand_out.Reads as hand-out-reads
@@ -59,7 +60,7 @@ use Rattle.layouts.proofs.descent.Descent.next.Reads as descent-next-reads
 use Rattle.layouts.proofs.descent.Descent.down.Reads as descent-down-reads
 use Rattle.layouts.proofs.descent.Descent.region.Reads as descent-region-reads
 use Rattle.stored.proofs.layout.view.Reads as view-reads
-use Rattle.stored.proofs.layout.region_in.Reads as region-reads
+use Rattle.stored.proofs.layout.region_in.Reads as region-in-reads
 use Rattle.stored.proofs.layout.tested.Reads as stored-tested-reads
 use Rattle.stored.proofs.layout.change.Reads as change-reads
 use Rattle.lookups.proofs.rows.level_plane.Reads as level-plane-reads
@@ -155,6 +156,9 @@ source-need-unique κs x r s e f p q = determined itself p q
 pub scratch-need-unique : (κs : Lfts 0) → OneOutcome (scratch-need-reads.Post κs) (λ r e. r)
 scratch-need-unique κs x r s e f p q = determined itself p q
 
+pub least-pitch-unique : (κs : Lfts 0) → OneOutcome (least-pitch-reads.Post κs) (λ r e. r)
+least-pitch-unique κs x r s e f p q = determined itself p q
+
 pub bad-pitch-unique : (κs : Lfts 0) → OneOutcome (bad-pitch-reads.Post κs) (λ r e. r)
 bad-pitch-unique κs x r s e f p q = determined itself p q
 
@@ -197,8 +201,8 @@ descent-region-unique κs x r s e f p q = determined itself p q
 pub view-unique : (κs : Lfts 1) → OneOutcome (view-reads.Post κs) (λ r e. r)
 view-unique κs x r s e f p q = determined itself p q
 
-pub region-unique : (κs : Lfts 1) → OneOutcome (region-reads.Post κs) (λ r e. r)
-region-unique κs x r s e f p q = determined itself p q
+pub region-in-unique : (κs : Lfts 1) → OneOutcome (region-in-reads.Post κs) (λ r e. r)
+region-in-unique κs x r s e f p q = determined itself p q
 
 pub put-unique : (κs : Lfts 2) → OneOutcome (put-reads.Post κs) (λ r e. now (e .0))
 put-unique κs x r s e f p q = determined itself p q
@@ -210,7 +214,7 @@ span-unique κs x r s e f p q = rw (determined itself (p .0) (q .0), determined 
 pub build-spilled-unique : (κs : Lfts 4) → OneOutcome (build-spilled-reads.Post κs) (λ r e. now (e .1 .0))
 build-spilled-unique κs x r s e f p q = determined itself p q
 
--- ---- the calls of `stored` and `planes`
+-- ---- the calls of `stored`, `lookups` and `planes`
 pub fill-unique : (κs : Lfts 1) → OneOutcome (fill-reads.Post κs) (λ r e. now (e .0))
 fill-unique κs x r s e f p q = determined itself p q
 

@@ -21,6 +21,7 @@ use Rattle.layouts.specs.Refusals.{layoutNo}
 use Rattle.layouts.specs.Answers.{needsOf, runOf}
 use Rattle.stored.specs.Layout.{viewOf, storedOf}
 use Rattle.stored.specs.Refusals.{storedNo}
+use Rattle.stored.specs.Answers.{settledBy}
 use Rattle.lookups.specs.Refusals.{rowNo, levelPlaneNo}
 use Rattle.lookups.specs.Answers.{levelPlane}
 use Rattle.frames.specs.Parts.{planesNo, partsOf, rowInNo, runInOf}
@@ -29,7 +30,7 @@ use Rattle.answers.specs.Lent.{noRoom, lowest, tells}
 
 -- ---- the numbers
 abbrev pub layoutOf : List ℤ → ℕ → ℕ → ℕ → Layout
-layoutOf l xs ys p = record { opts = recordOf l; «x_shift» = xs; «y_shift» = ys; pitch = p }
+layoutOf l = settledBy (recordOf l)
 
 abbrev pub runNumbers : Run → List ℕ
 runNumbers r = r .offset ∷ r .length ∷ []
@@ -52,7 +53,7 @@ layoutTells q = tells (layoutNo q) (storedOf q)
 
 -- of the record r, for the shifts x, y and the pitch p: the layout in l is the one that is changed
 abbrev pub changeTells : SuperOpts → ℕ → ℕ → ℕ → List ℕ → Answer (List ℕ)
-changeTells r x y p l = let q : Layout = record { opts = r; «x_shift» = x; «y_shift» = y; pitch = p } in ifDone (storedNo r l then layoutNo q) (storedOf q) l
+changeTells r x y p l = let q = settledBy r x y p in ifDone (storedNo r l then layoutNo q) (storedOf q) l
 
 abbrev pub endTells : SuperOpts → List ℕ → List ℕ → Answer (List ℕ)
 endTells r s = tells (storedNo r s) (writtenEnd (viewOf r s) ∷ [])

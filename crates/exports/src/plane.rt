@@ -1,4 +1,4 @@
-// A plane of a frame: its layout, made and changed; where its levels end, what a build needs, where a row and a level's plane lie, clearing margins, and the build.
+// A plane of a frame: its layout, made and changed; where its levels end, what a build needs, clearing margins, where a row and a level's plane lie, and the build.
 ghost use mathlib.Core.Path.{_≡_};
 ghost use Rattle.settings.specs.Answers.{answer};
 ghost use Rattle.lookups.specs.Answers.{clearAnswer};

@@ -10,7 +10,7 @@ use lib.Dec.{ltb, leb, eqb}
 use borrow.Author.Tests.{eqb-true, ltb-false, leb-false, lt-ltb, le-ltb, not-false}
 use Rattle.settings.specs.Limits.{mostSide, mostPitch, mostLevels}
 use Rattle.settings.specs.declared.refusal.Refusal.{Refusal}
-use Rattle.settings.specs.Answers.{answer, ifDone, number}
+use Rattle.settings.specs.Answers.{ifDone, number}
 use Rattle.settings.specs.Numbers.{refuse, _then_, total}
 use Rattle.settings.specs.Sizes.{reduced}
 use Rattle.settings.specs.Check.{accepted, recordNo, lumaW, lumaH, pelOf}

@@ -40,7 +40,7 @@ lentNo q n sp len spill scratch =
     then refuse (ltb spill (spillNeed q)) 12
     then refuse (ltb scratch (scratchNeed q)) 13
 
--- building
+-- building, by record, shifts and pitch: the number of a call whose layout isn't refused (`build-as-view` of `lookups`)
 unfoldable pub buildNo : Layout → ℕ → ℕ → ℕ → ℕ → ℕ → ℕ
 buildNo q n sp len spill scratch =
     layoutNo q

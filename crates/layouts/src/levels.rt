@@ -62,7 +62,7 @@ pub fn stored(layout: Layout, level: u32) -> usize
 }
 
 // Level 1's width counts where level 0 isn't stored, even if there is no level 1.
-fn least_pitch(layout: Layout) -> usize
+pub fn least_pitch(layout: Layout) -> usize
     ensures { λ r. ⌜ r ≡ leastPitch layout ⌝ }
 {
     let opts = layout.opts;

@@ -1,21 +1,24 @@
--- The numbers of a call that takes a stored layout: a refusal is kept by the tests after it; what comes where the layout isn't refused; and that it is document 01's number for the layout's view. Assumes nothing.
-use mathlib.Core.Path.{_≡_, refl, _∙_}
+-- The numbers of a call that takes a stored layout: a refusal is kept by the tests after it; what comes where the layout isn't refused; that a build's is document 01's for the layout's view; last, the rows of a level's plane. Assumes nothing.
+use mathlib.Core.Path.{_≡_, refl, sym, ap, _∙_}
+use mathlib.Core.Bool.{false}
 use mathlib.Core.List.{List}
-use Prim.Native.Nat.{ℕ, _≤_, _<_}
+use Prim.Native.Nat.{ℕ, _+_, _*_, _≤_, _<_}
+use native.Mathlib.Nat.{add-mul, add-assoc}
 use lib.Dec.{ltb}
-use borrow.Author.Tests.{ltb-false, lt-ltb, le-ltb}
+use borrow.Author.Tests.{ltb-false, lt-ltb, le-ltb, lt-leb}
 use Rattle.settings.specs.declared.refusal.Refusal.{Refusal}
 use Rattle.settings.specs.declared.super_opts.SuperOpts.{SuperOpts}
 use Rattle.settings.specs.Numbers.{refuse, _then_}
 use Rattle.settings.specs.Answers.{number}
 use Rattle.settings.proofs.Refusals.{then-first, then-rest, refuse-not}
-use Rattle.layouts.specs.Layout.{widthAt, writtenEnd}
+use Rattle.layouts.specs.Layout.{widthAt, heightAt, offsetAt, rowStart, writtenEnd}
 use Rattle.layouts.specs.Refusals.{badPitch, noRow, lentNo, buildNo}
 use Rattle.layouts.proofs.Layouts.{Rowed, then-kept}
 use Rattle.stored.specs.Layout.{viewOf}
 use Rattle.stored.specs.Refusals.{storedNo}
 use Rattle.stored.proofs.Exact.{passed}
 use Rattle.lookups.specs.Refusals.{frameNo, rowNo, noPlane, levelPlaneNo, storedBuildNo}
+use Rattle.lookups.specs.Answers.{levelPlane}
 
 module _ (r : SuperOpts) (s : List ℕ) (len : ℕ) where
   pub frame-kept : (f : Refusal) → number f ≡ storedNo r s → number f ≡ frameNo r s len
@@ -72,3 +75,13 @@ build-stored r s n sp len spill scratch e =
 pub build-as-view : (r : SuperOpts) (s : List ℕ) (n sp len spill scratch : ℕ) → storedNo r s ≡ 0 → storedBuildNo r s n sp len spill scratch ≡ buildNo (viewOf r s) n sp len spill scratch
 unfolding storedBuildNo buildNo
 build-as-view r s n sp len spill scratch none = rw (none, passed r s none .layout)
+
+-- "steps by the pitch": the rows of a level's plane that isn't refused are there, each its pitch after the one before
+module _ (r : SuperOpts) (s : List ℕ) (len l k : ℕ) where
+  pub plane-row : (y : ℕ) → levelPlaneNo r s len l k ≡ 0 → y < heightAt (viewOf r s) l → (rowNo r s len l k y ≡ 0) × (rowStart (viewOf r s) l k y ≡ levelPlane (viewOf r s) l k .start + y * levelPlane (viewOf r s) l k .pitch)
+  unfolding levelPlaneNo rowNo
+  plane-row y none lt =
+      let q = viewOf r s in
+      let last = refuse (noPlane q l k) 19 in
+      let there : noPlane q l k ≡ false = refuse-not (noPlane q l k) 18 (then-rest (frameNo r s len) last none) in
+      (rw (then-first (frameNo r s len) last none, there, lt-leb (heightAt q l) y lt) refl, ap (λ (n : ℕ). offsetAt q l + n) (add-mul (k * heightAt q l) y (q .pitch)) ∙ sym (add-assoc (offsetAt q l) (k * heightAt q l * q .pitch) (y * q .pitch)))

@@ -213,8 +213,11 @@ impl SuperOpts {
     pub fn accepted(self) -> bool
         ensures { λ r. ⌜ r ≡ accepted self ⌝ }
     {
+        if !self.accepted_but_levels() {
+            return false;
+        }
         let n = self.naturals();
-        self.accepted_but_levels() & (0 <= self.levels) & has_levels(n.levels, n.width, n.height)
+        (0 <= self.levels) & has_levels(n.levels, n.width, n.height)
     }
 
     pub fn naturals(self) -> Naturals

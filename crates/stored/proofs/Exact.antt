@@ -8,11 +8,11 @@ use native.Mathlib.Nat.{le-of-suc-le-suc, eq-or-lt-of-le}
 use native.Mathlib.Omega.{arith}
 use lib.Dec.{eqb, leb}
 use lib.ListN.{length, getD}
-use borrow.Author.Tests.{eqb-true, eq-eqb, le-leb, leb-true, not-false}
+use borrow.Author.Tests.{eqb-true, eq-eqb, le-leb, leb-true, le-ltb, not-false}
 use Rattle.settings.specs.declared.super_opts.SuperOpts.{SuperOpts}
 use Rattle.settings.specs.Limits.{mostLevels}
 use Rattle.settings.specs.Numbers.{refuse}
-use Rattle.settings.specs.Check.{recordNo}
+use Rattle.settings.specs.Check.{accepted, recordNo}
 use Rattle.settings.specs.Answers.{answer}
 use Rattle.settings.proofs.Tests.{and-left, and-right, yes-no, clash, false-by}
 use Rattle.settings.proofs.Refusals.{then-rest, refuse-not}
@@ -20,7 +20,7 @@ use Rattle.settings.proofs.Known.{given, number-of, value-given}
 use Rattle.layouts.specs.declared.layout.Layout.{Layout}
 use Rattle.layouts.specs.declared.layout.Region.{Region}
 use Rattle.layouts.specs.Layout.{levelsOf, regionAt, regionOr}
-use Rattle.layouts.specs.Refusals.{layoutNo}
+use Rattle.layouts.specs.Refusals.{leastPitch, badPitch, layoutNo}
 use Rattle.layouts.proofs.Layouts.{allowed, levels-le, region-there}
 use Rattle.stored.specs.Layout.{mostNumbers, storedOf, noStored, viewOf, sameNumbers, isStored}
 use Rattle.stored.specs.Inner.{areLayout, regionIn, sameRegion, everyLevel, sameAt, keeps}
@@ -42,6 +42,11 @@ shaped l e =
     let y = leb (getD l 2 0) 1 in
     let nx = and-left (n && x) y e in
     record { long = eqb-true (length l) mostNumbers (and-left n x nx); x = leb-true (getD l 1 0) 1 (and-right n x nx); y = leb-true (getD l 2 0) 1 (and-right (n && x) y e) }
+
+-- whose layout is refused for its pitch alone
+pub layout-by-pitch : (r : SuperOpts) (l : List ℕ) → accepted r ≡ true → areLayout l ≡ true → let q = viewOf r l in layoutNo q ≡ refuse (badPitch (q .pitch) (leastPitch q)) 8
+unfolding layoutNo
+layout-by-pitch r l good are = let s = shaped l are in rw (good, le-ltb 1 (getD l 1 0) (s .x), le-ltb 1 (getD l 2 0) (s .y)) refl
 
 -- ---- number for number
 same-self : (l : List ℕ) → sameNumbers l l ≡ true

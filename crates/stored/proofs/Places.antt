@@ -1,15 +1,19 @@
--- Where a level's numbers stand among those of a layout, what stands there, and that they are filled in from the front, level by level. Assumes nothing.
+-- Where a level's numbers stand among those of a layout, what stands there, and that they are filled in from the front, level by level, zeros after the last. Assumes nothing.
 use mathlib.Core.Path.{_≡_, refl, sym, ap, subst, _∙_}
-use mathlib.Core.List.{List}
-use Prim.Native.Nat.{ℕ, zero, suc, _+_, _*_, _/_, _%_, _<_}
+use mathlib.Core.List.{List, _++_, append-nil}
+use mathlib.Core.Logic.{⊎-elim}
+use Prim.Native.Nat.{ℕ, zero, suc, _+_, _*_, _-_, _/_, _%_, _≤_, _<_}
 use native.Mathlib.Omega.{arith}
-use lib.ListN.{length, getD, set}
+use lib.ListN.{length, getD, set, take, drop, replicate, length-append, length-replicate, length-drop, getD-replicate, drop-of-length-le, List·getD-append}
+use lib.Seq.{getD-append-add, getD-take, length-take-le}
 use Rattle.settings.specs.Limits.{mostLevels}
-use Rattle.filters.proofs.Tables.{tab-length, tab-at, is-tab}
+use Rattle.filters.proofs.Tests.{below-or}
+use Rattle.filters.proofs.Tables.{tab-length, tab-at, is-tab, part-length}
 use Rattle.filters.proofs.Filling.{Filled, filled-none, filled-more}
 use Rattle.layouts.specs.declared.layout.Layout.{Layout}
 use Rattle.layouts.specs.declared.layout.Region.{Region}
-use Rattle.layouts.specs.Layout.{levelsOf, regionOr}
+use Rattle.layouts.specs.Layout.{levelsOf, regionOr, noRegion}
+use Rattle.layouts.proofs.Layouts.{region-none}
 use Rattle.stored.specs.Layout.{regionNumber, numberAt, mostNumbers, storedOf, viewOf}
 use Rattle.stored.specs.Inner.{regionIn}
 
@@ -94,3 +98,45 @@ filled-level q {l} {i} {t} h lt e =
     let next : 4 + 3 * i + 2 + 1 ≡ 4 + 3 * (i + 1) = omega arith in
     subst (λ (k : ℕ). Filled (numberAt q) (put-region l i t) mostNumbers k) next
     (filled-more (subst (λ (k : ℕ). Filled (numberAt q) (set (set l (4 + 3 * i) (t .offset)) (4 + 3 * i + 1) (t .width)) mostNumbers k) third w) (omega arith) (ap (λ (r : Region). r .height) e ∙ sym (place q i 2 (omega arith))))
+
+-- and zeros after the last
+none-zero : (k : ℕ) → regionNumber noRegion k ≡ 0
+none-zero zero = refl
+none-zero (suc zero) = refl
+none-zero (suc (suc k)) = refl
+
+past-zero : (q : Layout) (n j : ℕ) → levelsOf q ≤ n → 4 + 3 * n ≤ j → numberAt q j ≡ 0
+past-zero q n zero past le = absurd (omega arith)
+past-zero q n (suc zero) past le = absurd (omega arith)
+past-zero q n (suc (suc zero)) past le = absurd (omega arith)
+past-zero q n (suc (suc (suc zero))) past le = absurd (omega arith)
+past-zero q n (suc (suc (suc (suc k)))) past le = ap (λ (t : Region). regionNumber t (k % 3)) (region-none q (k / 3) (omega arith)) ∙ none-zero (k % 3)
+
+pub filled-rest : (q : Layout) {l z : List ℕ} {n : ℕ} → Filled (numberAt q) l mostNumbers (4 + 3 * n) → levelsOf q ≤ n → z ≡ replicate (length (take (length l - (4 + 3 * n)) (drop (4 + 3 * n) l))) 0 → take (4 + 3 * n) l ++ (z ++ drop (length l - (4 + 3 * n)) (drop (4 + 3 * n) l)) ≡ storedOf q
+unfolding storedOf
+filled-rest q {l} {z} {n} h past e = whole ∙ is-tab (take k l ++ zeros) (numberAt q) mostNumbers (length-append (take k l) zeros ∙ omega (arith, front, length-replicate {A = ℕ} (mostNumbers - k) 0, h .most)) at
+  where
+    k : ℕ
+    k = 4 + 3 * n
+
+    zeros : List ℕ
+    zeros = replicate (mostNumbers - k) 0
+
+    front : length (take k l) ≡ k
+    front = length-take-le k l (omega (arith, h .most, h .long))
+
+    whole : take k l ++ (z ++ drop (length l - k) (drop k l)) ≡ take k l ++ zeros
+    whole =
+        ap (λ (m : List ℕ). take k l ++ m)
+        (ap (λ (m : List ℕ). z ++ m) (drop-of-length-le (drop k l) {i = length l - k} (omega (arith, length-drop k l)))
+        ∙ append-nil z
+        ∙ e
+        ∙ ap (λ (m : ℕ). replicate m 0) (part-length l k (length l) (omega (arith, h .most, h .long)) (omega arith) ∙ ap (λ (m : ℕ). m - k) (h .long)))
+
+    after : (j : ℕ) → k ≤ j → j < mostNumbers → getD (take k l ++ zeros) j 0 ≡ numberAt q j
+    after j le lt =
+        let there : j ≡ length (take k l) + (j - k) = omega (arith, front) in
+        ap (λ (i : ℕ). getD (take k l ++ zeros) i 0) there ∙ getD-append-add (take k l) zeros (j - k) 0 ∙ getD-replicate (mostNumbers - k) (j - k) 0 0 (omega arith) ∙ sym (past-zero q n j past le)
+
+    at : (j : ℕ) → j < mostNumbers → getD (take k l ++ zeros) j 0 ≡ numberAt q j
+    at j lt = ⊎-elim (λ (less : j < k). List·getD-append (take k l) zeros 0 j (omega (arith, front)) ∙ getD-take k l j 0 less ∙ h .done j less) (λ (le : k ≤ j). after j le lt) (below-or j k)

@@ -14,9 +14,13 @@ use Rattle.stored.specs.Refusals.{storedNo}
 abbrev pub layoutAnswer : Layout → Answer (List ℕ)
 layoutAnswer q = ifDone (layoutNo q) (storedOf q) noStored
 
--- "Changing the pitch or the shifts of a stored layout gives the layout one would get afresh": of the record r, for the shifts x, y and the pitch p
+-- what settles a layout: the record r, the shifts x, y and the pitch p
+abbrev pub settledBy : SuperOpts → ℕ → ℕ → ℕ → Layout
+settledBy r x y p = record { opts = r; «x_shift» = x; «y_shift» = y; pitch = p }
+
+-- "Changing the pitch or the shifts of a stored layout gives the layout one would get afresh"
 abbrev pub changeAnswer : SuperOpts → List ℕ → ℕ → ℕ → ℕ → Answer (List ℕ)
-changeAnswer r l x y p = let q : Layout = record { opts = r; «x_shift» = x; «y_shift» = y; pitch = p } in ifDone (storedNo r l then layoutNo q) (storedOf q) noStored
+changeAnswer r l x y p = let q = settledBy r x y p in ifDone (storedNo r l then layoutNo q) (storedOf q) noStored
 
 abbrev pub laid : Laid → Answer (List ℕ)
 laid a = answer (tested (a .tested)) (a .layout)

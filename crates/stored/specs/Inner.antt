@@ -27,7 +27,7 @@ unfoldable pub everyLevel : (ℕ → Bool) → ℕ → Bool
 everyLevel test zero = true
 everyLevel test (suc n) = everyLevel test n && test n
 
--- zeros where there is no such level
+-- whether level i is as making gives it, zeros where there is no such level
 abbrev pub sameAt : Layout → List ℕ → ℕ → Bool
 sameAt q l i = sameRegion (regionIn l i) (regionOr q i)
 

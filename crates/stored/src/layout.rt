@@ -4,20 +4,22 @@
 ghost use mathlib.Core.Path.{_≡_};
 ghost use mathlib.Core.Bool.{true};
 ghost use Prim.Native.Nat.{_<_};
-ghost use lib.ListN.{length};
+ghost use lib.ListN.{length, replicate};
 ghost use Rattle.settings.specs.Limits.{mostLevels};
+ghost use Rattle.settings.specs.Check.{accepted};
 ghost use Rattle.settings.specs.Answers.{tested};
-ghost use Rattle.layouts.specs.Layout.{levelsOf, regionOr};
-ghost use Rattle.layouts.specs.Descent.{reached};
+ghost use Rattle.layouts.specs.Layout.{levelsOf};
 ghost use Rattle.layouts.specs.Refusals.{layoutNo};
 ghost use Rattle.stored.specs.Layout.{mostNumbers, storedOf, viewOf, isStored};
-ghost use Rattle.stored.specs.Inner.{areLayout, regionIn, sameRegion, everyLevel, sameAt, keeps};
+ghost use Rattle.stored.specs.Inner.{areLayout, regionIn, sameRegion, everyLevel, sameAt};
 ghost use Rattle.stored.specs.Refusals.{storedNo};
 ghost use Rattle.stored.specs.Answers.{laid, layoutAnswer, changeAnswer};
 use layouts::descent::Descent;
 use layouts::layout::Layout;
 use layouts::layout::Region;
 use layouts::levels;
+use layouts::levels::bad_pitch;
+use layouts::levels::least_pitch;
 use settings::limits::MOST_LEVELS;
 use settings::refusal::BadLayout;
 use settings::refusal::Refusal;
@@ -27,9 +29,9 @@ use settings::super_opts::SuperOpts;
 // The places of the numbers before those of the levels.
 pub const COUNT: usize = 0;
 
-pub const X_SHIFT: usize = 1;
+const X_SHIFT: usize = 1;
 
-pub const Y_SHIFT: usize = 2;
+const Y_SHIFT: usize = 2;
 
 pub const PITCH: usize = 3;
 
@@ -46,23 +48,12 @@ pub struct Laid {
     pub layout: [usize; LAYOUT],
 }
 
-const NONE: Region = Region {
-    offset: 0,
-    width: 0,
-    height: 0,
-};
-
-// None where there is no such level.
-fn region_or(at: Descent, layout: Layout, level: u32) -> Region
-    requires { ⌜ (layoutNo layout ≡ 0) × (at ≡ reached layout level) ⌝ }
-    ensures { λ r. ⌜ r ≡ regionOr layout level ⌝ }
+fn zero(numbers: &mut [usize])
+    ensures { λ r. ⌜ now (numbers .exit) ≡ replicate (length (now (numbers .entry))) 0 ⌝ }
 {
-    let opts = layout.opts;
-    let n = opts.naturals();
-    if n.levels <= level {
-        return NONE;
+    for i in 0..numbers.len() {
+        numbers[i] = 0;
     }
-    at.region(layout, level)
 }
 
 // Makes a layout where the caller has room for it: for calls that have tested what it is made from.
@@ -72,19 +63,22 @@ pub fn fill(numbers: &mut [usize], layout: Layout)
 {
     let opts = layout.opts;
     let n = opts.naturals();
-    numbers[COUNT] = n.levels as usize;
+    let levels = n.levels;
+    numbers[COUNT] = levels as usize;
     numbers[X_SHIFT] = layout.x_shift as usize;
     numbers[Y_SHIFT] = layout.y_shift as usize;
     numbers[PITCH] = layout.pitch;
     let mut at = Descent::top(layout);
-    for level in 0..MOST_LEVELS as u32 {
-        let r = region_or(at, layout, level);
+    for level in 0..levels {
+        let r = at.region(layout, level);
         let i = HEAD + STEP * level as usize;
         numbers[i] = r.offset;
         numbers[i + 1] = r.width;
         numbers[i + 2] = r.height;
         at = at.next(layout, level);
     }
+    let from = HEAD + STEP * levels as usize;
+    zero(&mut numbers[from..]);
 }
 
 // Makes the layout that record, shifts and pitch settle. Refusals 6, 7 and 8.
@@ -106,6 +100,7 @@ pub fn level_regions(layout: Layout) -> Laid
     }
 }
 
+// As many as a layout has, and shifts that a view can have.
 fn are_layout(numbers: &[usize]) -> bool
     ensures { λ r. ⌜ r ≡ areLayout (now (numbers .entry)) ⌝ }
 {
@@ -151,8 +146,13 @@ fn ends_in_zeros(numbers: &[usize], layout: Layout, levels: u32) -> bool
     requires { ⌜ (layoutNo layout ≡ 0) × (levels ≡ levelsOf layout) × (length (now numbers) ≡ mostNumbers) × (everyLevel (sameAt layout (now numbers)) levels ≡ true) ⌝ }
     ensures { λ r. ⌜ r ≡ everyLevel (sameAt layout (now (numbers .entry))) mostLevels ⌝ }
 {
+    let none = Region {
+        offset: 0,
+        width: 0,
+        height: 0,
+    };
     for level in levels..MOST_LEVELS as u32 {
-        if !same_region(region_in(numbers, level), NONE) {
+        if !same_region(region_in(numbers, level), none) {
             return false;
         }
     }
@@ -177,16 +177,18 @@ fn has_regions(numbers: &[usize], layout: Layout) -> bool
     ends_in_zeros(numbers, layout, levels)
 }
 
+// For a record that was tested.
 fn is_stored(opts: SuperOpts, numbers: &[usize]) -> bool
+    requires { ⌜ accepted opts ≡ true ⌝ }
     ensures { λ r. ⌜ r ≡ isStored opts (now (numbers .entry)) ⌝ }
 {
     if !are_layout(numbers) {
         return false;
     }
     let layout = view(opts, numbers);
-    let Tested::Fine = levels::tested(layout) else {
+    if bad_pitch(layout.pitch, least_pitch(layout)) {
         return false;
-    };
+    }
     let n = opts.naturals();
     if numbers[COUNT] != n.levels as usize {
         return false;
@@ -194,17 +196,17 @@ fn is_stored(opts: SuperOpts, numbers: &[usize]) -> bool
     has_regions(numbers, layout)
 }
 
-// Whether they are the layout that the record gives for its own shifts and pitch. Refusals 6 and 32.
+// Whether they are the layout that the record gives for their own shifts and pitch. Refusals 6 and 32.
 pub fn tested(opts: SuperOpts, layout: &[usize]) -> Tested
     ensures { λ r. ⌜ tested r ≡ storedNo opts (now (layout .entry)) ⌝ }
 {
-    if is_stored(opts, layout) {
-        return Tested::Fine;
+    if !opts.accepted() {
+        return Tested::Refused(Refusal::NoRecord);
     }
-    if opts.accepted() {
+    if !is_stored(opts, layout) {
         return Tested::Refused(Refusal::Layout(BadLayout::Stored));
     }
-    Tested::Refused(Refusal::NoRecord)
+    Tested::Fine
 }
 
 // What making gives for other shifts or another pitch. Refusals 6 and 32, for the layout itself; then 7 and 8.
@@ -212,12 +214,16 @@ pub fn change(opts: SuperOpts, layout: &[usize], x_shift: u32, y_shift: u32, pit
     ensures { λ r. ⌜ laid r ≡ changeAnswer opts (now (layout .entry)) «x_shift» «y_shift» pitch ⌝ }
 {
     match tested(opts, layout) {
-        Tested::Fine => level_regions(Layout {
-            opts,
-            x_shift,
-            y_shift,
-            pitch,
-        }),
+        Tested::Fine => {
+            let old = view(opts, layout);
+            let opts = old.opts;
+            level_regions(Layout {
+                opts,
+                x_shift,
+                y_shift,
+                pitch,
+            })
+        }
         Tested::Refused(f) => Laid {
             tested: Tested::Refused(f),
             layout: [0; LAYOUT],

@@ -1,5 +1,5 @@
 -- `sill_layout_change` meets its contract. Assumes nothing.
-use mathlib.Core.Path.{_≡_, sym, ap, _∙_}
+use mathlib.Core.Path.{sym, ap, _∙_}
 use Prim.Native.Nat.{ℕ}
 use denote.Ref.{now}
 use Rattle.settings.specs.declared.refusal.Tested.{Tested}
@@ -7,10 +7,10 @@ use Rattle.settings.specs.declared.super_opts.SuperOpts.{SuperOpts}
 use Rattle.settings.specs.Numbers.{_then_}
 use Rattle.settings.specs.Answers.{answer, tested}
 use Rattle.settings.proofs.Known.{refused, number-of}
-use Rattle.layouts.specs.declared.layout.Layout.{Layout}
 use Rattle.layouts.specs.Refusals.{layoutNo}
 use Rattle.stored.specs.Layout.{storedOf}
 use Rattle.stored.specs.Refusals.{storedNo}
+use Rattle.stored.specs.Answers.{settledBy}
 use Rattle.exports.specs.Calls.{changeTells}
 use Rattle.exports.proofs.Changed.{change-told}
 use borrow.Author.Needs.{needs}
@@ -58,7 +58,7 @@ returns-2 c = let m = c .before .before .before .before in
     let r = m .before .before .record-of .result in
     let a = m .before .before .before .before .args in
     let l = now (a .layout) in
-    let q : Layout = record { opts = r; «x_shift» = a .x-shift; «y_shift» = a .y-shift; pitch = a .pitch } in
+    let q = settledBy r (a .x-shift) (a .y-shift) (a .pitch) in
     let f = c .before .before .tested .given in
     let e = number-of (ap (λ (t : Tested). answer (tested t) (m .change .result .layout)) (sym (f .1)) ∙ m .change .ensures) in
     ap (λ (n : ℕ). answer n l) (c .number .ensures)

@@ -11,7 +11,6 @@ use Rattle.layouts.specs.Layout.{levelsOf, heightAt, storedAt, bytesAt, offsetA
 use Rattle.layouts.proofs.Layouts.{allowed, levels-le, offset-le, planes-le, bytes-le, offset-first, offset-next}
 use Rattle.stored.specs.Layout.{mostNumbers, viewOf}
 use Rattle.stored.proofs.Exact.{passed, passed-long, passed-are, passed-count, found}
-use borrow.Author.Needs.{needs}
 use Rattle.lookups.proofs.ends.end.Statement.{statement}
 use Rattle.lookups.proofs.ends.end.Tie as tie
 

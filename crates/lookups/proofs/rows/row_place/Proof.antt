@@ -1,5 +1,5 @@
 -- `row_place` meets its contract. Assumes nothing.
-use mathlib.Core.Path.{_≡_, sym, ap, _∙_}
+use mathlib.Core.Path.{sym, ap, _∙_}
 use denote.Ref.{now}
 use Rattle.settings.specs.Answers.{tested}
 use Rattle.settings.proofs.Known.{refused}

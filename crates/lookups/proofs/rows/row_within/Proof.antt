@@ -19,7 +19,6 @@ use Rattle.stored.specs.Layout.{viewOf}
 use Rattle.stored.proofs.Exact.{Found, passed, passed-long, passed-are, passed-count, found}
 use Rattle.lookups.specs.Refusals.{frameNo, rowNo}
 use Rattle.lookups.proofs.Numbers.{row-kept, frame-short, frame-long, row-last}
-use borrow.Author.Needs.{needs}
 use Rattle.lookups.proofs.rows.row_within.Statement.{statement}
 use Rattle.lookups.proofs.rows.row_within.Tie as tie
 

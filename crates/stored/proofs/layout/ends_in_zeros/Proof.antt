@@ -19,10 +19,10 @@ use Rattle.stored.proofs.layout.ends_in_zeros.Statement.{statement}
 use Rattle.stored.proofs.layout.ends_in_zeros.Tie as tie
 
 abbrev Inv-loop : tie.InvT-loop
-Inv-loop numbers levels level₀ level = (levels ≤ level) × ((j : ℕ) → levels ≤ j → j < level → sameRegion (regionIn numbers j) noRegion ≡ true)
+Inv-loop numbers levels none level₀ level = (levels ≤ level) × ((j : ℕ) → levels ≤ j → j < level → sameRegion (regionIn numbers j) noRegion ≡ true)
 
 abbrev μ-loop : tie.MeasureT-loop
-μ-loop numbers levels level₀ level = mostLevels - level
+μ-loop numbers levels none level₀ level = mostLevels - level
 
 loop-holds : tie.Need-loop-holds Inv-loop μ-loop
 loop-holds c = (omega arith, λ j le lt. absurd (omega arith))

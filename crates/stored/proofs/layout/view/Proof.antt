@@ -1,10 +1,6 @@
 -- `view` meets its contract. Assumes nothing.
-use mathlib.Core.Path.{_≡_}
-use Prim.Native.Nat.{_≤_}
 use native.Mathlib.Omega.{arith}
-use lib.ListN.{length, getD}
 use denote.Ref.{now}
-use Rattle.stored.specs.Layout.{mostNumbers}
 use Rattle.stored.proofs.Exact.{Shaped, shaped}
 use borrow.Author.Needs.{needs}
 use Rattle.stored.proofs.layout.view.Statement.{statement}
