@@ -8,7 +8,8 @@
    table, and document 02's 15 to 18, 23, 24 and 32, which the table leaves free. Where more than one applies the lowest is given, and
    none other. These have an order of their own, told there: sill_longhand_read, sill_frame_row and sill_build_frame; and
    sill_layout_change, sill_clear_margins, sill_row, sill_level_plane and sill_build_plane, in which 32, the layout's, stands right after
-   6, the record's, and before the rest.
+   6, the record's, and before the rest; of 15 the calls that tell a place say where it stands. sill_written_end and sill_needs go by the
+   lowest: 15 comes before 32.
 
    Slices. A slice is a pointer and then a count of elements, and the pointer is aligned for its type, as C's own arrays are.
    Where the count is 0 the pointer isn't looked at and may be NULL: a slice that is missing is a slice of length 0, and gets the
@@ -54,9 +55,12 @@
    record, in place of shifts and pitch. Each plane of a level takes height * pitch bytes, one after another from the level's offset; of
    a record that isn't full, level 0 is listed with its size and nothing of it is stored.
    Each call holds the layout to its record: a slice that isn't exactly what sill_layout gives for this record and the layout's own
-   shifts and pitch is refused with SILL_BAD_LAYOUT, as another count of elements, a number changed, past the last level too, a shift
-   above 1, or a pitch that sill_layout refuses. It goes by the numbers, not by where they came from: a copy does. A later, larger limit
-   on the levels will add numbers at the end and move no place.
+   shifts and pitch is refused with SILL_BAD_LAYOUT, as another count of elements, a number past the last level that isn't 0, a shift
+   above 1, or a pitch that sill_layout refuses. It goes by the numbers, not by where they came from: a copy does, and so does another
+   record's where both give the same, as records that differ in down, rc or lean alone; and where no offset depends on the pitch, for
+   want of stored levels, a layout with another pitch is the layout of that pitch.
+   Keep it in memory. In a report store the longhand record, the shifts and the pitch, and make the layout again: a later, larger limit
+   on the levels will add numbers at the end, move no place, and refuse the fewer.
    For a row now and then, ask sill_row: each time it tests the record and the layout, in one walk down the levels. For many rows, ask
    sill_level_plane once for each level's plane, and step from its start by the pitch.
 
@@ -216,14 +220,15 @@ uint32_t sill_longhand_read(const uint8_t *bytes, size_t bytes_count, int32_t *r
    Numbers: 6 SILL_NO_RECORD, 15 SILL_NO_ROOM. */
 uint32_t sill_super_sizes(const int32_t *record, size_t record_count, int32_t *sizes, size_t sizes_count);
 
-/* Makes a plane's layout, to be kept beside its record for the calls below. Writes SILL_COUNT_LAYOUT numbers.
+/* Makes a plane's layout, to be kept beside its record for the calls below. Writes SILL_COUNT_LAYOUT numbers; the calls below take just
+   these, however many elements were lent.
    Numbers: 6 SILL_NO_RECORD, 7 SILL_BAD_SHIFT, 8 SILL_BAD_PITCH, 15 SILL_NO_ROOM. */
 uint32_t sill_layout(const int32_t *record, size_t record_count, uint32_t x_shift, uint32_t y_shift, size_t pitch,
                      size_t *layout, size_t layout_count);
 
 /* Changes a layout in place to the one that sill_layout gives for these shifts and this pitch. A refusal leaves it as it was.
    Numbers, in the order in which they are looked for: 6 SILL_NO_RECORD; 32 SILL_BAD_LAYOUT for the layout handed in; 7 SILL_BAD_SHIFT and
-   8 SILL_BAD_PITCH for the new shifts and pitch. */
+   8 SILL_BAD_PITCH for the new shifts and pitch. Another count of elements is 32, never 15. */
 uint32_t sill_layout_change(const int32_t *record, size_t record_count, size_t *layout, size_t layout_count,
                             uint32_t x_shift, uint32_t y_shift, size_t pitch);
 
@@ -242,8 +247,9 @@ uint32_t sill_needs(const int32_t *record, size_t record_count, const size_t *la
 uint32_t sill_clear_margins(uint8_t *frame, size_t frame_count, const int32_t *record, size_t record_count,
                             const size_t *layout, size_t layout_count);
 
-/* Where a row lies in a frame of frame_length bytes. Writes SILL_COUNT_PLACE numbers: offset, length. For a row now and then: it tests
-   the record and the layout each time, in one walk down the levels. For many rows, sill_level_plane is asked once.
+/* Where a row lies in a frame of frame_length bytes: the written end, where there is no frame yet. Writes SILL_COUNT_PLACE numbers:
+   offset, length. For a row now and then: it tests the record and the layout each time, in one walk down the levels. For many rows,
+   sill_level_plane is asked once.
    Numbers, in the order in which they are looked for: 6 SILL_NO_RECORD, 32 SILL_BAD_LAYOUT, 11 SILL_BAD_FRAME, 19 SILL_NO_ROW. Where
    `place` is too short, 15 SILL_NO_ROOM stands in place of 0, 19 and 32. */
 uint32_t sill_row(size_t frame_length, const int32_t *record, size_t record_count, const size_t *layout, size_t layout_count,
