@@ -253,7 +253,7 @@ impl Layout {
     }
 }
 
-/// A frame that a build has finished.
+/// A frame that a build has finished, and what it was built by.
 pub struct Plane {
     record: Record,
     layout: Layout,
@@ -302,7 +302,12 @@ impl Record {
                 r.as_ptr(), r.len(), l.as_ptr(), l.len(), src.as_ptr(), src.len(), src_pitch,
             )
         })?;
-        Ok(Plane { record: *self, layout: *layout, frame })
+        Ok(self.plane(layout, frame))
+    }
+
+    /// A frame that was built before, as one read from a file. Whether it is long enough is told where a row is asked for.
+    pub fn plane(&self, layout: &Layout, frame: Vec<u8>) -> Plane {
+        Plane { record: *self, layout: *layout, frame }
     }
 }
 
@@ -459,6 +464,7 @@ fn main() -> Result<(), Box<dyn Error>> {
     assert_eq!((whole.rows().count(), whole.height, plane.row(1, 0, 4)), (4, 4, Err(Refused::NoRow)));
     assert_eq!((plane.level_plane(0, 1).err(), plane.layout()), (Some(Refused::NoRow), &layout));
     assert_eq!(record.build_plane(&layout, &source[1..], 8).err(), Some(Refused::BadSource));
+    assert_eq!((record.plane(&layout, plane.frame.clone()).row(1, 0, 0), record.plane(&layout, Vec::new()).row(1, 0, 0)), (plane.row(1, 0, 0), Err(Refused::BadFrame)));
     // A changed layout is the one made afresh; what can't be made leaves it as it was.
     record.change_layout(&mut layout, (0, 0), 24)?;
     assert_eq!((record.layout((0, 0), 24)?, record.change_layout(&mut layout, (2, 0), 24)), (layout, Err(Refused::BadShift)));
