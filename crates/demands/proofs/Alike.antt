@@ -11,8 +11,9 @@ use Rattle.settings.specs.Word.{bits}
 use Rattle.settings.specs.Reading.{candidate, readNo, Packs, agree, alike}
 use Rattle.settings.proofs.Tests.{and-left, and-right}
 use Rattle.settings.proofs.Told.{read-case, at-0, code-packs}
-use Rattle.demands.specs.Demands.{SameBuild, leaves, Leaves}
-use Rattle.demands.proofs.Same.{changed, leaves-marks, buildNumber, number-same, leaves-canon, builds-canon}
+use Rattle.stored.specs.Layout.{storedOf}
+use Rattle.demands.specs.Demands.{Inputs, withLayout, SameBuild, leaves, Leaves}
+use Rattle.demands.proofs.Same.{changed, leaves-marks, buildNumber, number-same, leaves-canon, builds-canon, layout-same, one-layout}
 
 -- a field below bit 47 is one of the bits below it
 height-low : (v : ℕ) → bits (v % 2 ^ 47) 0 16 ≡ bits v 0 16
@@ -82,3 +83,20 @@ alike-build a b e r s p q g m is-src is-frame h =
           ∙ ap (λ (z : SuperOpts). leaves z g) (sym as-marked)
           ∙ leaves-canon b names-b s q g,
     )
+
+-- and for one pair of shifts and pitch they have one stored layout
+pub alike-layout : (a b : ℕ) → alike a b ≡ true → (r s : SuperOpts) → Packs a r → Packs b s → (g : Inputs) → storedOf (withLayout r g) ≡ storedOf (withLayout s g)
+unfolding alike
+alike-layout a b e r s p q g =
+    let one = eqb (readNo a) 0 in
+    let two = eqb (readNo b) 0 in
+    let both = and-left (one && two) (agree a b) e in
+    let same = and-right (one && two) (agree a b) e in
+    let packs-a = code-packs a (at-0 (read-case a) (eqb-true (readNo a) 0 (and-left one two both)) .0) in
+    let packs-b = code-packs b (at-0 (read-case b) (eqb-true (readNo b) 0 (and-right one two both)) .0) in
+    let x = candidate a in
+    let y = candidate b in
+    one-layout a r x p packs-a g
+    ∙ sym (layout-same x (x .«scale_down») (x .«scale_up») (y .rc) (y .lean) g)
+    ∙ ap (λ (z : SuperOpts). storedOf (withLayout z g)) (sym (spelled-alike a b same))
+    ∙ one-layout b y s packs-b q g

@@ -1,9 +1,9 @@
--- Settings that don't matter leave no trace: records alike but for them build alike, so that a word that reading takes for one build names one. Assumes nothing.
+-- Settings that don't matter leave no trace: records alike but for them build alike, so that a word that reading takes for one build names one; and the records behind a word have one stored layout for each pair of shifts and pitch. Assumes nothing.
 use mathlib.Core.Path.{_≡_, refl, sym, ap, _∙_}
 use mathlib.Core.Logic.{⊎-elim}
 use mathlib.Core.Bool.{Bool, true, false, cond, not, _&&_, _||_}
 use mathlib.Core.List.{List, _++_}
-use Prim.Native.Nat.{ℕ, zero, suc, _+_, _-_, _≤_}
+use Prim.Native.Nat.{ℕ, zero, suc, _+_, _-_, _/_, _≤_}
 use native.Mathlib.Omega.{arith}
 use lib.Dec.{eqb, leb}
 use lib.IntN.{ℤ, pos}
@@ -15,17 +15,20 @@ use Rattle.settings.specs.Check.{accepted, pelOf, levelCount}
 use Rattle.settings.specs.Reading.{candidate, readNo, downMatters, upMatters, Packs}
 use Rattle.settings.proofs.Tests.{and-off, or-yes, or-right}
 use Rattle.settings.proofs.Accepted.{fine, is-nat-pos}
+use Rattle.settings.proofs.Words.{Agree, same-word}
 use Rattle.settings.proofs.Told.{filtered-packs, four-or-not, canon-accepted, canon-four, packs-canon, code-packs, read-case, at-0, halving as halvingOpen, upscale as upscaleOpen}
 use Rattle.filters.specs.declared.halving.ReduceFilter.{ReduceFilter}
 use Rattle.filters.specs.declared.halving.Chosen.{Chosen}
 use Rattle.filters.specs.declared.halving.Chosen.the-variants.{Filter, NoFilter}
 use Rattle.filters.specs.Halve.{chosen}
 use Rattle.filters.specs.Refine.{upscale}
+use Rattle.filters.proofs.Tables.{tab-ext}
 use Rattle.layouts.specs.declared.layout.Layout.{Layout}
 use Rattle.layouts.specs.Storing.{steps}
 use Rattle.layouts.specs.Layout.{levelsOf, storedAt, offsetAt, spillNeed, scratchNeed}
 use Rattle.layouts.specs.Margins.{fusedAt}
 use Rattle.layouts.specs.Refusals.{layoutNo, lentNo, buildNo}
+use Rattle.stored.specs.Layout.{numberAt, mostNumbers, storedOf}
 use Rattle.builder.specs.Refining.{refine}
 use Rattle.builder.proofs.Stages.{turns}
 use Rattle.planes.specs.Build.{planesOf, copied, levelBy, halvedBy, builtBy, frameBy, halveLevel, halved, refines, refined, built}
@@ -187,3 +190,24 @@ same-build v e r s p q g m bs bf h = (builds-both v r s p q g (h .0), h .1 ∙ s
 -- "names one build exactly if ..", one way
 pub one-there : (v : ℕ) → readNo v ≡ 0 → ((r : SuperOpts) × Packs v r) × ((r s : SuperOpts) → Packs v r → Packs v s → SameBuild Leaves r s)
 one-there v e = ((candidate v, code-packs v (at-0 (read-case v) e .0)), same-build v e)
+
+-- ---- "given the same .. layout": where shifts and pitch are the same, so are the layouts that are handed in
+module _ (r : SuperOpts) (d u : ℤ) (rc lean : Bool) (g : Inputs) where
+  place-same : (k : ℕ) → numberAt (withLayout (changed r d u rc lean) g) k ≡ numberAt (withLayout r g) k
+  place-same zero = refl
+  place-same (suc zero) = refl
+  place-same (suc (suc zero)) = refl
+  place-same (suc (suc (suc zero))) = refl
+  place-same (suc (suc (suc (suc k)))) = rw (offset-same r d u rc lean g (k / 3))
+
+  pub layout-same : storedOf (withLayout (changed r d u rc lean) g) ≡ storedOf (withLayout r g)
+  unfolding storedOf
+  layout-same = tab-ext (numberAt (withLayout (changed r d u rc lean) g)) (numberAt (withLayout r g)) mostNumbers (λ k lt. place-same k)
+
+agreed : (r s : SuperOpts) → Agree r s → changed r (s .«scale_down») (s .«scale_up») (s .rc) (s .lean) ≡ s
+agreed r s a = rw (a .pel, a .gpu, a .full, a .levels, a .width, a .height) refl
+
+pub one-layout : (v : ℕ) (r s : SuperOpts) → Packs v r → Packs v s → (g : Inputs) → storedOf (withLayout r g) ≡ storedOf (withLayout s g)
+one-layout v r s p q g =
+    let a = same-word r s (p .good) (q .good) (p .word ∙ sym (q .word)) in
+    sym (layout-same r (s .«scale_down») (s .«scale_up») (s .rc) (s .lean) g) ∙ ap (λ (t : SuperOpts). storedOf (withLayout t g)) (agreed r s a)

@@ -214,10 +214,10 @@ span-unique κs x r s e f p q = rw (determined itself (p .0) (q .0), determined 
 pub build-spilled-unique : (κs : Lfts 4) → OneOutcome (build-spilled-reads.Post κs) (λ r e. now (e .1 .0))
 build-spilled-unique κs x r s e f p q = determined itself p q
 
--- ---- the calls of `stored`, `lookups` and `planes`
 pub fill-unique : (κs : Lfts 1) → OneOutcome (fill-reads.Post κs) (λ r e. now (e .0))
 fill-unique κs x r s e f p q = determined itself p q
 
+-- ---- the calls of `stored`, `lookups` and `planes`
 pub level-regions-unique : (κs : Lfts 0) → OneOutcome (level-regions-reads.Post κs) (λ r e. r)
 level-regions-unique κs x r s e f p q = determined laid-known p q
 

@@ -107,6 +107,7 @@ abbrev pub PacksTo : ℕ → SuperOpts → Type 0
 PacksTo v r = Returns r × (packed (Word v) ≡ packAnswer r)
 
 -- with the layout that making gives, and some spill and scratch, `build_plane` answers that it is done, and leaves m in the frame
+-- the layout is one for all records behind a word, and behind words that prepare alike (`one-layout` and `alike-layout` of proofs/Same.antt and Alike.antt)
 pub record CallLeaves (r : SuperOpts) (g : Inputs) (m : List ℕ) : Type 0 where
   pub spill : List ℕ
   pub scratch : List ℕ
