@@ -58,45 +58,44 @@ module _ (a b : ℕ) (same : agree a b ≡ true) where
       let full = sym (full-high b) ∙ ap (λ (n : ℕ). n % 2) (sym high) ∙ full-high a in
       rw (height, width, pel, levels, down, gpu, full)
 
-pub alike-build : (a b : ℕ) → alike a b ≡ true → (r s : SuperOpts) → Packs a r → Packs b s → SameBuild Leaves r s
+-- both words name a build, and agree
+paired : (a b : ℕ) → alike a b ≡ true → (readNo a ≡ 0) × (readNo b ≡ 0) × (agree a b ≡ true)
 unfolding alike
-alike-build a b e r s p q g m is-src is-frame h =
+paired a b e =
     let one = eqb (readNo a) 0 in
     let two = eqb (readNo b) 0 in
     let both = and-left (one && two) (agree a b) e in
-    let same = and-right (one && two) (agree a b) e in
-    let names-a = eqb-true (readNo a) 0 (and-left one two both) in
-    let names-b = eqb-true (readNo b) 0 (and-right one two both) in
-    let good-a = code-packs a (at-0 (read-case a) names-a .0) .good in
-    let good-b = code-packs b (at-0 (read-case b) names-b .0) .good in
-    let as-marked = spelled-alike a b same in
+    (eqb-true (readNo a) 0 (and-left one two both), eqb-true (readNo b) 0 (and-right one two both), and-right (one && two) (agree a b) e)
+
+-- the record that such a word spells packs to it
+names-packs : (v : ℕ) → readNo v ≡ 0 → Packs v (candidate v)
+names-packs v e = code-packs v (at-0 (read-case v) e .0)
+
+pub alike-build : (a b : ℕ) → alike a b ≡ true → (r s : SuperOpts) → Packs a r → Packs b s → SameBuild Leaves r s
+alike-build a b e r s p q g m is-src is-frame h =
+    let t = paired a b e in
+    let as-marked = spelled-alike a b (t .2) in
     let x = candidate a in
     let y = candidate b in (
       sym (builds-canon b s q g)
           ∙ ap (λ (z : SuperOpts). buildNumber z g) as-marked
-          ∙ number-same x (x .«scale_down») (x .«scale_up») (y .rc) (y .lean) g good-a (sym (ap accepted as-marked) ∙ good-b)
+          ∙ number-same x (x .«scale_down») (x .«scale_up») (y .rc) (y .lean) g (names-packs a (t .0) .good) (sym (ap accepted as-marked) ∙ names-packs b (t .1) .good)
           ∙ builds-canon a r p g
           ∙ h .0,
       h .1
-          ∙ sym (leaves-canon a names-a r p g)
+          ∙ sym (leaves-canon a (t .0) r p g)
           ∙ sym (leaves-marks x (y .rc) (y .lean) g)
           ∙ ap (λ (z : SuperOpts). leaves z g) (sym as-marked)
-          ∙ leaves-canon b names-b s q g,
+          ∙ leaves-canon b (t .1) s q g,
     )
 
 -- and for one pair of shifts and pitch they have one stored layout
 pub alike-layout : (a b : ℕ) → alike a b ≡ true → (r s : SuperOpts) → Packs a r → Packs b s → (g : Inputs) → storedOf (withLayout r g) ≡ storedOf (withLayout s g)
-unfolding alike
 alike-layout a b e r s p q g =
-    let one = eqb (readNo a) 0 in
-    let two = eqb (readNo b) 0 in
-    let both = and-left (one && two) (agree a b) e in
-    let same = and-right (one && two) (agree a b) e in
-    let packs-a = code-packs a (at-0 (read-case a) (eqb-true (readNo a) 0 (and-left one two both)) .0) in
-    let packs-b = code-packs b (at-0 (read-case b) (eqb-true (readNo b) 0 (and-right one two both)) .0) in
+    let t = paired a b e in
     let x = candidate a in
     let y = candidate b in
-    one-layout a r x p packs-a g
+    one-layout a r x p (names-packs a (t .0)) g
     ∙ sym (layout-same x (x .«scale_down») (x .«scale_up») (y .rc) (y .lean) g)
-    ∙ ap (λ (z : SuperOpts). storedOf (withLayout z g)) (sym (spelled-alike a b same))
-    ∙ one-layout b y s packs-b q g
+    ∙ ap (λ (z : SuperOpts). storedOf (withLayout z g)) (sym (spelled-alike a b (t .2)))
+    ∙ one-layout b y s (names-packs b (t .1)) q g

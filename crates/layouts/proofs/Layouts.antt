@@ -68,8 +68,7 @@ allowed q e =
       most = pitch .2;
     }
 
--- ---- what comes after
--- a refusal is kept by the tests after it
+-- ---- a refusal is kept by the tests after it; what a row that isn't refused has
 pub then-kept : (f : Refusal) (m n : ℕ) → number f ≡ m → m ≡ (m then n)
 then-kept f m n e = sym e ∙ number-then f n ∙ ap (λ (k : ℕ). k then n) e
 

@@ -13,6 +13,7 @@ use libc::STDIN_FILENO;
 use libc::STDOUT_FILENO;
 use lookups::ends::Ended;
 use lookups::ends::written_end;
+use settings::limits::MOST_LEVELS;
 use settings::refusal::Tested;
 use settings::super_opts::SuperOpts;
 use stored::layout::COUNT;
@@ -86,7 +87,7 @@ fn put_laid(out: &mut [u8; 513], laid: Laid) {
 }
 
 fn put_regions(out: &mut [u8; 513], layout: &[usize; LAYOUT]) {
-    for level in 0..13u32 {
+    for level in 0..MOST_LEVELS as u32 {
         put_region(out, level as usize, region_in(layout, level));
     }
 }

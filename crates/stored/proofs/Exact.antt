@@ -23,7 +23,7 @@ use Rattle.layouts.specs.Layout.{levelsOf, regionAt, regionOr}
 use Rattle.layouts.specs.Refusals.{leastPitch, badPitch, layoutNo}
 use Rattle.layouts.proofs.Layouts.{allowed, levels-le, region-there}
 use Rattle.stored.specs.Layout.{mostNumbers, storedOf, noStored, viewOf, sameNumbers, isStored}
-use Rattle.stored.specs.Inner.{areLayout, regionIn, sameRegion, everyLevel, sameAt, keeps}
+use Rattle.stored.specs.Inner.{hasView, regionIn, sameRegion, everyLevel, sameAt, keeps}
 use Rattle.stored.specs.Refusals.{storedNo}
 use Rattle.stored.specs.Answers.{layoutAnswer}
 use Rattle.stored.proofs.Places.{by-region, stored-long, stored-at, stored-region, view-stored, is-stored}
@@ -34,8 +34,8 @@ pub record Shaped (l : List ℕ) : Type 0 where
   pub x : getD l 1 0 ≤ 1
   pub y : getD l 2 0 ≤ 1
 
-pub shaped : (l : List ℕ) → areLayout l ≡ true → Shaped l
-unfolding areLayout
+pub shaped : (l : List ℕ) → hasView l ≡ true → Shaped l
+unfolding hasView
 shaped l e =
     let n = eqb (length l) mostNumbers in
     let x = leb (getD l 1 0) 1 in
@@ -44,7 +44,7 @@ shaped l e =
     record { long = eqb-true (length l) mostNumbers (and-left n x nx); x = leb-true (getD l 1 0) 1 (and-right n x nx); y = leb-true (getD l 2 0) 1 (and-right (n && x) y e) }
 
 -- whose layout is refused for its pitch alone
-pub layout-by-pitch : (r : SuperOpts) (l : List ℕ) → accepted r ≡ true → areLayout l ≡ true → let q = viewOf r l in layoutNo q ≡ refuse (badPitch (q .pitch) (leastPitch q)) 8
+pub layout-by-pitch : (r : SuperOpts) (l : List ℕ) → accepted r ≡ true → hasView l ≡ true → let q = viewOf r l in layoutNo q ≡ refuse (badPitch (q .pitch) (leastPitch q)) 8
 unfolding layoutNo
 layout-by-pitch r l good are = let s = shaped l are in rw (good, le-ltb 1 (getD l 1 0) (s .x), le-ltb 1 (getD l 2 0) (s .y)) refl
 
@@ -150,14 +150,14 @@ passes r l p = rw (allowed (viewOf r l) (p .layout) .good, eq-eqb (layoutNo (vie
 pub passed-long : (r : SuperOpts) (l : List ℕ) → Passed r l → length l ≡ mostNumbers
 passed-long r l p = ap length (p .made) ∙ stored-long (viewOf r l)
 
-pub passed-are : (r : SuperOpts) (l : List ℕ) → Passed r l → areLayout l ≡ true
-unfolding areLayout
-passed-are r l p =
+pub passed-view : (r : SuperOpts) (l : List ℕ) → Passed r l → hasView l ≡ true
+unfolding hasView
+passed-view r l p =
     let a = allowed (viewOf r l) (p .layout) in
     rw (eq-eqb (length l) mostNumbers (passed-long r l p), le-leb (getD l 1 0) 1 (a .x), le-leb (getD l 2 0) 1 (a .y)) refl
 
-pub are-no : (r : SuperOpts) (l : List ℕ) → areLayout l ≡ false → isStored r l ≡ false
-are-no r l e = false-by (isStored r l) (λ yes. clash (areLayout l) (passed-are r l (stored-passed r l yes)) e)
+pub viewless : (r : SuperOpts) (l : List ℕ) → hasView l ≡ false → isStored r l ≡ false
+viewless r l e = false-by (isStored r l) (λ yes. clash (hasView l) (passed-view r l (stored-passed r l yes)) e)
 
 pub passed-count : (r : SuperOpts) (l : List ℕ) → Passed r l → getD l 0 0 ≡ levelsOf (viewOf r l)
 passed-count r l p = ap (λ (m : List ℕ). getD m 0 0) (p .made) ∙ stored-at (viewOf r l) 0 (omega arith)

@@ -12,8 +12,8 @@ use Rattle.layouts.specs.Layout.{levelsOf, regionOr}
 use Rattle.stored.specs.Layout.{mostNumbers}
 
 -- as many as a layout's, and each shift 0 or 1
-unfoldable pub areLayout : List ℕ → Bool
-areLayout l = eqb (length l) mostNumbers && leb (getD l 1 0) 1 && leb (getD l 2 0) 1
+unfoldable pub hasView : List ℕ → Bool
+hasView l = eqb (length l) mostNumbers && leb (getD l 1 0) 1 && leb (getD l 2 0) 1
 
 -- level i's region, as they have it
 abbrev pub regionIn : List ℕ → ℕ → Region

@@ -11,7 +11,7 @@ ghost use Rattle.settings.specs.Answers.{tested};
 ghost use Rattle.layouts.specs.Layout.{levelsOf};
 ghost use Rattle.layouts.specs.Refusals.{layoutNo};
 ghost use Rattle.stored.specs.Layout.{mostNumbers, storedOf, viewOf, isStored};
-ghost use Rattle.stored.specs.Inner.{areLayout, regionIn, sameRegion, everyLevel, sameAt};
+ghost use Rattle.stored.specs.Inner.{hasView, regionIn, sameRegion, everyLevel, sameAt};
 ghost use Rattle.stored.specs.Refusals.{storedNo};
 ghost use Rattle.stored.specs.Answers.{laid, layoutAnswer, changeAnswer};
 use layouts::descent::Descent;
@@ -100,9 +100,8 @@ pub fn level_regions(layout: Layout) -> Laid
     }
 }
 
-// As many as a layout has, and shifts that a view can have.
-fn are_layout(numbers: &[usize]) -> bool
-    ensures { λ r. ⌜ r ≡ areLayout (now (numbers .entry)) ⌝ }
+fn has_view(numbers: &[usize]) -> bool
+    ensures { λ r. ⌜ r ≡ hasView (now (numbers .entry)) ⌝ }
 {
     if numbers.len() != LAYOUT {
         return false;
@@ -112,7 +111,7 @@ fn are_layout(numbers: &[usize]) -> bool
 
 // What settles it, with the record that stands beside it.
 pub fn view(opts: SuperOpts, numbers: &[usize]) -> Layout
-    requires { ⌜ areLayout (now numbers) ≡ true ⌝ }
+    requires { ⌜ hasView (now numbers) ≡ true ⌝ }
     ensures { λ r. ⌜ r ≡ viewOf opts (now (numbers .entry)) ⌝ }
 {
     Layout {
@@ -182,7 +181,7 @@ fn is_stored(opts: SuperOpts, numbers: &[usize]) -> bool
     requires { ⌜ accepted opts ≡ true ⌝ }
     ensures { λ r. ⌜ r ≡ isStored opts (now (numbers .entry)) ⌝ }
 {
-    if !are_layout(numbers) {
+    if !has_view(numbers) {
         return false;
     }
     let layout = view(opts, numbers);

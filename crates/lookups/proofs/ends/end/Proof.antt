@@ -10,7 +10,7 @@ use Rattle.layouts.specs.declared.layout.Region.{Region}
 use Rattle.layouts.specs.Layout.{levelsOf, heightAt, storedAt, bytesAt, offsetAt, regionAt}
 use Rattle.layouts.proofs.Layouts.{allowed, levels-le, offset-le, planes-le, bytes-le, offset-first, offset-next}
 use Rattle.stored.specs.Layout.{mostNumbers, viewOf}
-use Rattle.stored.proofs.Exact.{passed, passed-long, passed-are, passed-count, found}
+use Rattle.stored.proofs.Exact.{passed, passed-long, passed-view, passed-count, found}
 use Rattle.lookups.proofs.ends.end.Statement.{statement}
 use Rattle.lookups.proofs.ends.end.Tie as tie
 
@@ -60,7 +60,7 @@ region-in-requires : tie.Need-region-in-requires
 region-in-requires c κs = (omega (arith, some (c .before)), long (c .before .before .before .before))
 
 view-requires : tie.Need-view-requires
-view-requires c κs = passed-are _ _ (passed _ _ (c .before .before .before .before .before .pre))
+view-requires c κs = passed-view _ _ (passed _ _ (c .before .before .before .before .before .pre))
 
 stored-requires : tie.Need-stored-requires
 stored-requires c κs = tt

@@ -10,7 +10,7 @@ use Rattle.layouts.specs.Refusals.{layoutNo}
 use Rattle.layouts.specs.Answers.{needsOf, noNeeds}
 use Rattle.stored.specs.Layout.{viewOf}
 use Rattle.stored.specs.Refusals.{storedNo}
-use Rattle.stored.proofs.Exact.{passed, passed-are}
+use Rattle.stored.proofs.Exact.{passed, passed-view}
 use borrow.Author.Needs.{needs}
 use Rattle.lookups.proofs.ends.needs.Statement.{statement}
 use Rattle.lookups.proofs.ends.needs.Tie as tie
@@ -28,7 +28,7 @@ enum-told : tie.Need-enum-told
 enum-told c = search needs
 
 view-requires : tie.Need-view-requires
-view-requires c κs = passed-are _ _ (passed _ _ (fine c))
+view-requires c κs = passed-view _ _ (passed _ _ (fine c))
 
 spill-need-requires : tie.Need-spill-need-requires
 spill-need-requires c κs = ap layoutNo (c .view .ensures) ∙ passed _ _ (fine (c .before)) .layout

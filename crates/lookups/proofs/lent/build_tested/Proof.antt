@@ -9,7 +9,7 @@ use Rattle.layouts.specs.Refusals.{badPitch, lentNo}
 use Rattle.layouts.proofs.Layouts.{pitch-within, then-kept}
 use Rattle.stored.specs.Layout.{viewOf}
 use Rattle.stored.specs.Refusals.{storedNo}
-use Rattle.stored.proofs.Exact.{passed, passed-are}
+use Rattle.stored.proofs.Exact.{passed, passed-view}
 use Rattle.lookups.specs.Refusals.{storedBuildNo}
 use borrow.Author.Needs.{needs}
 use Rattle.lookups.proofs.lent.build_tested.Statement.{statement}
@@ -43,7 +43,7 @@ returns c = let s = c .before .before .before .before .args in
     f ∙ first ∙ then-kept (told .0 .0) (n then second) (lentNo q (s .src) (s .src-pitch) (s .frame) (s .spill) (s .scratch)) (e ∙ first)
 
 view-requires : tie.Need-view-requires
-view-requires c κs = passed-are _ _ (passed _ _ (fine c))
+view-requires c κs = passed-view _ _ (passed _ _ (fine c))
 
 width-requires : tie.Need-width-requires
 width-requires c κs = search needs

@@ -12,7 +12,7 @@ use Rattle.layouts.specs.Layout.{writtenEnd}
 use Rattle.layouts.specs.Margins.{cleared}
 use Rattle.stored.specs.Layout.{viewOf}
 use Rattle.stored.specs.Refusals.{storedNo}
-use Rattle.stored.proofs.Exact.{passed, passed-are}
+use Rattle.stored.proofs.Exact.{passed, passed-view}
 use Rattle.lookups.specs.Refusals.{frameNo}
 use Rattle.lookups.proofs.Numbers.{frame-kept, frame-short, frame-long}
 use borrow.Author.Needs.{needs}
@@ -50,7 +50,7 @@ returns-2 c = let s = c .before .before .before .before .before .before .before 
     refused (frameNo (s .opts) (now (s .layout)) (length f)) (Lent Frame) (cleared (viewOf (s .opts) (now (s .layout))) f) f (frame-short (s .opts) (now (s .layout)) (length f) (fine (c .before .before)) (omega (arith, ends (c .before), c .if1 .taken)))
 
 view-requires : tie.Need-view-requires
-view-requires c κs = passed-are _ _ (passed _ _ (fine (c .before .before .before)))
+view-requires c κs = passed-view _ _ (passed _ _ (fine (c .before .before .before)))
 
 clear-levels-requires : tie.Need-clear-levels-requires
 clear-levels-requires c κs = rw (c .view .ensures) (passed _ _ (fine (c .before .before .before .before)) .layout, omega (arith, ends (c .before .before .before), c .before .before .if1 .left))

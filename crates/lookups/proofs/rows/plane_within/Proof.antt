@@ -20,7 +20,7 @@ use Rattle.layouts.specs.Layout.{levelsOf, heightAt, storedAt, regionAt, writte
 use Rattle.layouts.proofs.Loops.{row-in}
 use Rattle.layouts.proofs.Layouts.{allowed, offset-le, planes-le}
 use Rattle.stored.specs.Layout.{viewOf}
-use Rattle.stored.proofs.Exact.{Found, passed, passed-long, passed-are, passed-count, found}
+use Rattle.stored.proofs.Exact.{Found, passed, passed-long, passed-view, passed-count, found}
 use Rattle.lookups.specs.Refusals.{frameNo, noPlane, levelPlaneNo}
 use Rattle.lookups.specs.Answers.{levelPlane, noLevelPlane}
 use Rattle.lookups.proofs.Numbers.{plane-kept, frame-short, frame-long, plane-last}
@@ -79,7 +79,7 @@ returns-2 c = let s = c .before .before .before .before .before in
     refused (levelPlaneNo (a .opts) (now (a .layout)) (a .len) (a .level) (a .plane)) NoRow (levelPlane q (a .level) (a .plane)) noLevelPlane (rw past at (plane-last (a .opts) (now (a .layout)) (a .len) (a .level) (a .plane) (long (c .before .before))))
 
 view-requires : tie.Need-view-requires
-view-requires c κs = passed-are _ _ (passed _ _ (c .before .before .before .before .before .pre))
+view-requires c κs = passed-view _ _ (passed _ _ (c .before .before .before .before .before .pre))
 
 stored-requires : tie.Need-stored-requires
 stored-requires c κs = search needs

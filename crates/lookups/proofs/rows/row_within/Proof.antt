@@ -16,7 +16,7 @@ use Rattle.layouts.specs.Layout.{levelsOf, writtenEnd}
 use Rattle.layouts.specs.Refusals.{noRow}
 use Rattle.layouts.specs.Answers.{runOf, noRun}
 use Rattle.stored.specs.Layout.{viewOf}
-use Rattle.stored.proofs.Exact.{Found, passed, passed-long, passed-are, passed-count, found}
+use Rattle.stored.proofs.Exact.{Found, passed, passed-long, passed-view, passed-count, found}
 use Rattle.lookups.specs.Refusals.{frameNo, rowNo}
 use Rattle.lookups.proofs.Numbers.{row-kept, frame-short, frame-long, row-last}
 use Rattle.lookups.proofs.rows.row_within.Statement.{statement}
@@ -55,7 +55,7 @@ region-in-requires : tie.Need-region-in-requires
 region-in-requires c κs = (here c .few, passed-long _ _ (passed _ _ (c .before .before .before .before .before .pre)))
 
 view-requires : tie.Need-view-requires
-view-requires c κs = passed-are _ _ (passed _ _ (c .before .before .before .before .before .before .pre))
+view-requires c κs = passed-view _ _ (passed _ _ (c .before .before .before .before .before .before .pre))
 
 placed-at-requires : tie.Need-placed-at-requires
 placed-at-requires c κs = let h = here (c .before .before) in

@@ -7,7 +7,7 @@ use Rattle.settings.specs.Answers.{answer, tested}
 use Rattle.settings.proofs.Known.{given, refused}
 use Rattle.layouts.specs.declared.layout.Layout.{Layout}
 use Rattle.stored.specs.Layout.{viewOf}
-use Rattle.stored.proofs.Exact.{passed-are, passed as fine}
+use Rattle.stored.proofs.Exact.{passed-view, passed as fine}
 use Rattle.lookups.proofs.Numbers.{build-stored}
 use Rattle.planes.specs.Build.{frameBy, planeNo}
 use Rattle.planes.proofs.Whole.{ready-stored, lent-zeroed}
@@ -40,7 +40,7 @@ returns c =
     (refused n (told .0 .0) (frameBy (a .fuse) (viewOf (a .opts) (now (a .layout))) src (a .src-pitch) F) F e, refused n (told .0 .0) (replicate (length S) 0) S e, refused n (told .0 .0) (replicate (length X) 0) X e)
 
 view-requires : tie.Need-view-requires
-view-requires c κs = passed-are _ _ (fine _ _ (build-stored _ _ _ _ _ _ _ (passed c)))
+view-requires c κs = passed-view _ _ (fine _ _ (build-stored _ _ _ _ _ _ _ (passed c)))
 
 build-spilled-requires : tie.Need-build-spilled-requires
 build-spilled-requires c κs = rw (c .before .before .before .view .ensures) (ready-stored _ _ _ _ _ _ _ (passed (c .before .before .before .before)))

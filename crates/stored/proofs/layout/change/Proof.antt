@@ -10,7 +10,7 @@ use Rattle.layouts.proofs.Layouts.{then-kept}
 use Rattle.stored.specs.Layout.{storedOf, noStored}
 use Rattle.stored.specs.Refusals.{storedNo}
 use Rattle.stored.specs.Answers.{layoutAnswer, settledBy}
-use Rattle.stored.proofs.Exact.{passed, passed-are}
+use Rattle.stored.proofs.Exact.{passed, passed-view}
 use borrow.Author.Needs.{needs}
 use Rattle.stored.proofs.layout.change.Statement.{statement}
 use Rattle.stored.proofs.layout.change.Tie as tie
@@ -25,7 +25,7 @@ enum-told : tie.Need-enum-told
 enum-told c = search needs
 
 view-requires : tie.Need-view-requires
-view-requires c κs = passed-are _ _ (passed _ _ (fine c))
+view-requires c κs = passed-view _ _ (passed _ _ (fine c))
 
 level-regions-requires : tie.Need-level-regions-requires
 level-regions-requires c κs = search needs

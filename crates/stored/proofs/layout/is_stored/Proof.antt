@@ -9,17 +9,17 @@ use Rattle.settings.specs.declared.super_opts.Naturals.{Naturals}
 use Rattle.layouts.specs.declared.layout.Layout.{Layout}
 use Rattle.layouts.specs.Refusals.{leastPitch, badPitch, layoutNo}
 use Rattle.stored.specs.Layout.{mostNumbers, viewOf, isStored}
-use Rattle.stored.specs.Inner.{areLayout, keeps}
-use Rattle.stored.proofs.Exact.{shaped, layout-by-pitch, are-no, by-levels}
+use Rattle.stored.specs.Inner.{hasView, keeps}
+use Rattle.stored.proofs.Exact.{shaped, layout-by-pitch, viewless, by-levels}
 use borrow.Author.Needs.{needs}
 use Rattle.stored.proofs.layout.is_stored.Statement.{statement}
 use Rattle.stored.proofs.layout.is_stored.Tie as tie
 
-are-layout-requires : tie.Need-are-layout-requires
-are-layout-requires c κs = search needs
+has-view-requires : tie.Need-has-view-requires
+has-view-requires c κs = search needs
 
-shape : (c : tie.Else1) → areLayout (now (c .before .before .before .args .numbers)) ≡ true
-shape c = sym (c .before .are-layout .ensures) ∙ not-false (c .before .are-layout .result) (c .if1 .left)
+shape : (c : tie.Else1) → hasView (now (c .before .before .before .args .numbers)) ≡ true
+shape c = sym (c .before .has-view .ensures) ∙ not-false (c .before .has-view .result) (c .if1 .left)
 
 long : (c : tie.Else1) → length (now (c .before .before .before .args .numbers)) ≡ mostNumbers
 long c = shaped (now (c .before .before .before .args .numbers)) (shape c) .long
@@ -32,7 +32,7 @@ none c = let s = c .before .before .before .before .before .before .before in rw
 
 returns : tie.Need-returns
 returns c = let s = c .before .before .before .args in
-    sym (are-no (s .opts) (now (s .numbers)) (sym (c .before .are-layout .ensures) ∙ not-true (c .before .are-layout .result) (c .if1 .taken)))
+    sym (viewless (s .opts) (now (s .numbers)) (sym (c .before .has-view .ensures) ∙ not-true (c .before .has-view .result) (c .if1 .taken)))
 
 view-requires : tie.Need-view-requires
 view-requires c κs = shape c
@@ -76,7 +76,7 @@ pub is-stored-spec : {M : Type 1} → statement M
 is-stored-spec =
     tie.close
     (tie.spec
-    are-layout-requires
+    has-view-requires
     returns
     view-requires
     least-pitch-requires
