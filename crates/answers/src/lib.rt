@@ -4,6 +4,8 @@
 //     told       what a word tells, as numbers
 //     sizes      what a build needs, where a level's plane lies and where the parts of a frame lie, as numbers
 //     room       an answer put into a lent slice, and the number where that is too short
+#![tactic(auto)]
+
 pub mod given;
 pub mod record;
 pub mod room;

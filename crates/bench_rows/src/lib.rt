@@ -1,4 +1,6 @@
 // The row functions for a program in C: what bench/run links and counts. Each is the call of `filters` of its name, on rows of 1,920 bytes; a row is halved by two calls.
+#![tactic(auto)]
+
 use filters::half_pel::HalfPel;
 use filters::halving::{ReduceFilter, deinterleave};
 use filters::rows::{copy_row, mean_row, zero_row};

@@ -4,6 +4,8 @@
 //     halving    later levels from the level before, inside the frame
 //     separate   level 1 from the source plane, where level 0 isn't stored
 //     refining   the planes of level 0 between its places
+#![tactic(auto)]
+
 pub mod canvas;
 pub mod halving;
 pub mod refining;

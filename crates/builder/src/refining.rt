@@ -14,7 +14,7 @@ use filters::half_pel::{HalfPel, Upscale};
 use filters::rows::{copy_row, mean, mean_row};
 
 // Planes of `height` rows of `width` bytes, `pitch` apart.
-#[derive(Drop)]
+#[derive(Clone, Copy)]
 pub struct Interp {
     pub pitch: usize,
     pub width: usize,
@@ -22,7 +22,7 @@ pub struct Interp {
 }
 
 // A plane between two others. The left one is read `across` columns and `below` rows on, and as many are left out.
-#[derive(Drop)]
+#[derive(Clone, Copy)]
 pub struct Pair {
     pub target: usize,
     pub left: usize,

@@ -1,5 +1,7 @@
 // Document 01, "Checked by hand", what is run by a program: the number of a frame that is exactly long enough and of one a byte short, whether targets 8, 7 and 10 wide fuse, and the bytes of level 1 that refining overwrites.
 // A fused level keeps the margins that it has when they are cleared, and zeroes them from 2 * width on when it is built; another's are zeroed, and keep what they held. Last, the smallest picture whose build depends on bytes past the written end.
+#![tactic(auto)]
+
 use layouts::layout::Layout;
 use libc::STDOUT_FILENO;
 use lookups::margins::clear_margins;

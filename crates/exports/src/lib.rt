@@ -3,6 +3,8 @@
 //     longhand    `sill_longhand_write`, `sill_longhand_read`: a record spelled out as bytes
 //     plane       `sill_layout` .. `sill_build_plane`: a plane of a frame, by its layout
 //     frame       `sill_frame_parts` .. `sill_build_frame`: all three planes of a frame
+#![tactic(auto)]
+
 pub mod frame;
 pub mod longhand;
 pub mod plane;

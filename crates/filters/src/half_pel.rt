@@ -8,24 +8,24 @@ ghost use Rattle.filters.specs.Inner.{Reach, natural_pel, next_means};
 use crate::rows::{copy_row, mean_row, rest};
 
 // Document 01's bicubic and Wiener.
-#[derive(Drop)]
+#[derive(Clone, Copy)]
 pub enum HalfPel {
     CatmullRom,
     Wiener,
 }
 
 // What an up setting names: means of neighbours (document 01's bilinear), or a kernel.
-#[derive(Drop)]
+#[derive(Clone, Copy)]
 pub enum Upscale {
     Means,
     Kernel(HalfPel),
 }
 
 // A kernel's constants: how many of the first places are means, from which place before the end on they are again (the copied place counted), and the rounding term.
-#[derive(Drop)]
+#[derive(Clone, Copy)]
 pub struct CatmullRom;
 
-#[derive(Drop)]
+#[derive(Clone, Copy)]
 pub struct Wiener;
 
 impl CatmullRom {

@@ -7,7 +7,7 @@ ghost use Rattle.filters.specs.Inner.{Low, Reach, Apart, weighed_apart, with_las
 
 use crate::rows::{mean, rest};
 
-#[derive(Drop)]
+#[derive(Clone, Copy)]
 pub enum ReduceFilter {
     Average,
     Bilinear,
@@ -16,7 +16,7 @@ pub enum ReduceFilter {
 }
 
 // The filter that a down setting names.
-#[derive(Drop)]
+#[derive(Clone, Copy)]
 pub enum Chosen {
     Filter(ReduceFilter),
     NoFilter,
@@ -24,16 +24,16 @@ pub enum Chosen {
 
 // A filter's constants: the first row that it reads, counted up from the source row, and the last, counted down; whether the last output is a mean; and the rounding term.
 // `weigh` shifts in two steps, which takes fewer instructions on vectors: what counts 2, 4 or 8 times is added once, after the rest is shifted by 1, 2 or 3. The bits that the rest loses can't reach the result.
-#[derive(Drop)]
+#[derive(Clone, Copy)]
 pub struct Average;
 
-#[derive(Drop)]
+#[derive(Clone, Copy)]
 pub struct Bilinear;
 
-#[derive(Drop)]
+#[derive(Clone, Copy)]
 pub struct Quadratic;
 
-#[derive(Drop)]
+#[derive(Clone, Copy)]
 pub struct Cubic;
 
 impl Average {

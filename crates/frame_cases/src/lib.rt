@@ -4,6 +4,8 @@
 // The answer to a build is the number (4 bytes), the sums of frame, spill and scratch after the call (8 bytes each) and, if asked for, the frame.
 // A sum is two numbers of 4 bytes: from 1 on, h becomes (h * m + byte) modulo 4,294,967,291, with m = 1,000,003 for the first and m = 998,244,353 for the second.
 // First what is read of a case; then the earlier bytes; then what is answered.
+#![tactic(auto)]
+
 ghost use Rattle.std.specs.Prelude.{◌+◌, ◌*◌, ◌≤◌, ◌<◌, length};
 
 use layouts::layout::Layout;

@@ -14,7 +14,7 @@ use settings::refusal::{BadLent, BadPlanes, Refusal, Tested};
 use settings::super_opts::SuperOpts;
 
 // The part of a frame that is a plane's.
-#[derive(Drop)]
+#[derive(Clone, Copy)]
 pub struct Part {
     pub start: usize,
     pub pitch: usize,
@@ -22,7 +22,7 @@ pub struct Part {
 }
 
 // The three parts, how long they are together, and what a build needs beside them.
-#[derive(Drop)]
+#[derive(Clone, Copy)]
 pub struct Parts {
     pub y: Part,
     pub u: Part,
@@ -31,7 +31,7 @@ pub struct Parts {
     pub needs: Needs,
 }
 
-#[derive(Drop)]
+#[derive(Clone, Copy)]
 pub enum Parted {
     Parts(Parts),
     Refused(Refusal),

@@ -1,5 +1,7 @@
 // Holds the Wiener rows to pictures whose half samples an independent H.264 decoder made (docs/VECTORS.md says how): positions b, half a place along a row, and h, half a place down, where the rule has no edge.
 // Standard input: for each picture its width and height (a byte each), then the picture, the plane of b and the plane of h. A line is printed for each: how many samples were compared, and how many differ.
+#![tactic(auto)]
+
 ghost use Rattle.std.specs.Prelude.{◌+◌, ◌≤◌, ◌<◌, ◌≡◌, length};
 
 use filters::half_pel::HalfPel;

@@ -1,4 +1,6 @@
 // Lines of hexadecimal words, which the replays read and write: word k is the 8 digits from byte 9 * k, an integer as two's complement.
+#![tactic(auto)]
+
 ghost use Rattle.std.specs.Prelude.{length, ◌+◌, ◌*◌, ◌≤◌, ◌<◌};
 
 use settings::numbers::{from_bits, to_bits};

@@ -11,7 +11,7 @@ use crate::levels::stored;
 use settings::super_opts::reduce_once;
 
 // Where a level lies, and the picture's sides, reduced so often.
-#[derive(Drop)]
+#[derive(Clone, Copy)]
 pub struct Descent {
     pub offset: usize,
     pub width: u32,

@@ -1,7 +1,7 @@
 // What settles where a plane's levels lie in a frame, a level's region, and what a build needs beside the frame: the head of open-svpflow's super_build.rs, its names kept.
 use settings::super_opts::SuperOpts;
 
-#[derive(Drop)]
+#[derive(Clone, Copy)]
 pub struct Layout {
     pub opts: SuperOpts,
     pub x_shift: u32,
@@ -9,7 +9,7 @@ pub struct Layout {
     pub pitch: usize,
 }
 
-#[derive(Drop)]
+#[derive(Clone, Copy)]
 pub struct Region {
     pub offset: usize,
     pub width: usize,
@@ -17,7 +17,7 @@ pub struct Region {
 }
 
 // The bytes that a build needs of spill and of scratch.
-#[derive(Drop)]
+#[derive(Clone, Copy)]
 pub struct Needs {
     pub spill: usize,
     pub scratch: usize,

@@ -5,6 +5,8 @@
 //     lent       what a build needs of the slices that it is lent
 //     rows       a row of a frame
 //     margins    clearing the margins of a level
+#![tactic(auto)]
+
 pub mod descent;
 pub mod layout;
 pub mod lent;

@@ -13,13 +13,13 @@ use crate::levels::stored;
 use settings::refusal::Refusal;
 
 // A run of bytes in a frame.
-#[derive(Drop)]
+#[derive(Clone, Copy)]
 pub struct Run {
     pub offset: usize,
     pub length: usize,
 }
 
-#[derive(Drop)]
+#[derive(Clone, Copy)]
 pub enum Placed {
     At(Run),
     Refused(Refusal),

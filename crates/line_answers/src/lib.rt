@@ -1,5 +1,7 @@
 // The programs `words` and `longhand`: what they print for a whole input, and the programs themselves, as a function.
 // First what is printed for a line, put into a lent slice; then for all lines, and the whole output; last `answer_input`, which reads, and writes that.
+#![tactic(auto)]
+
 ghost use Rattle.std.specs.Prelude.{◌≡◌, ◌++◌, ◌+◌, ◌≤◌, length, take, drop};
 ghost use Rattle.lines.specs.Limits.{most_printed};
 ghost use Rattle.lines.specs.Text.{room, shown, Printed};
@@ -14,7 +16,7 @@ use lines::text::{Line, line_out};
 use longhand_lines::longhand::longhand_line;
 
 // Which program answers: which build each stored word names, or longhand records and settings.
-#[derive(Drop)]
+#[derive(Clone, Copy)]
 pub enum Program {
     Words,
     Longhand,

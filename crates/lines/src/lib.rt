@@ -2,6 +2,8 @@
 //     limits        how much input the programs take, and how much they print
 //     text          digits in, and a line that is being made; a line with a word
 //     parting       where a line ends, or a field of it
+#![tactic(auto)]
+
 pub mod limits;
 pub mod parting;
 pub mod text;

@@ -8,7 +8,7 @@ use settings::numbers::natural;
 use settings::super_opts::OptInt;
 use settings::word::{Description, Told, read_word};
 
-#[derive(Drop)]
+#[derive(Clone, Copy)]
 pub enum Number {
     Value(u64),
     Other,
@@ -89,7 +89,7 @@ fn magnitude(z: i32) -> u64
 pub const ROOM: usize = 256;
 
 // Text that is being made: the first `len` bytes.
-#[derive(Drop)]
+#[derive(Clone, Copy)]
 pub struct Line {
     pub bytes: [u8; ROOM],
     pub len: usize,

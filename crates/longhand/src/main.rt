@@ -1,4 +1,6 @@
 // Longhand records, in hexadecimal, and settings: a line for each line of standard input. A record is read; settings are checked and written as a record.
+#![tactic(auto)]
+
 use line_answers::Program;
 
 fn main() {

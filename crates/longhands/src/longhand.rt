@@ -23,13 +23,13 @@ pub const RECORD: usize = FRAME + BODY;
 pub const UNKNOWN_KIND: u32 = 16;
 
 // A record, and the place after its longhand.
-#[derive(Drop)]
+#[derive(Clone, Copy)]
 pub struct Longhand {
     pub opts: SuperOpts,
     pub after: usize,
 }
 
-#[derive(Drop)]
+#[derive(Clone, Copy)]
 pub enum Read {
     Record(Longhand),
     // The kind isn't known: the place after the record, by its length.

@@ -12,13 +12,13 @@ use settings::refusal::{Refusal, Tested};
 use settings::super_opts::SuperOpts;
 use stored::layout::{COUNT, PITCH, region_in, tested, view};
 
-#[derive(Drop)]
+#[derive(Clone, Copy)]
 pub enum Ended {
     End(usize),
     Refused(Refusal),
 }
 
-#[derive(Drop)]
+#[derive(Clone, Copy)]
 pub enum Needed {
     Needs(Needs),
     Refused(Refusal),

@@ -3,6 +3,8 @@
 //     lent       what a build is refused for
 //     rows       a row of a frame, and a level's plane
 //     margins    clearing the margins of a frame's levels
+#![tactic(auto)]
+
 pub mod ends;
 pub mod lent;
 pub mod margins;

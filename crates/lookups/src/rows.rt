@@ -16,7 +16,7 @@ use settings::super_opts::SuperOpts;
 use stored::layout::{COUNT, PITCH, region_in, tested, view};
 
 // Row y of it begins y pitches after its start, and has width bytes.
-#[derive(Drop)]
+#[derive(Clone, Copy)]
 pub struct Plane {
     pub start: usize,
     pub width: usize,
@@ -24,7 +24,7 @@ pub struct Plane {
     pub pitch: usize,
 }
 
-#[derive(Drop)]
+#[derive(Clone, Copy)]
 pub enum Planed {
     At(Plane),
     Refused(Refusal),

@@ -16,7 +16,7 @@ fn row_of(src: &[u8], src_pitch: usize, width: usize, height: usize, y: usize) -
     span(src, y * src_pitch, width)
 }
 
-#[derive(Drop)]
+#[derive(Clone, Copy)]
 pub struct Level0<'a> {
     src: &'a [u8],
     src_pitch: usize,

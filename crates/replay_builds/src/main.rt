@@ -1,5 +1,7 @@
 // Answers cases about whole builds, from standard input to standard output: what the comparison with the Rust runs, and the gate on a list of the Rust's own answers, with its fused path off where a case says so.
 // A case is 24 words and bytes, as `frame_cases` has them: the 14 words of a layout, the source pitch (high and low word), the four lengths, what is asked for and the seed, and whether the fused path is off; then the bytes.
+#![tactic(auto)]
+
 use frame_cases::{
     after_making, earlier, laid_of, long, put_bytes, put_tested, read_whole, record_of, too_long,
     word,

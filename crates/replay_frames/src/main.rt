@@ -1,6 +1,8 @@
 // Answers cases about frames of three planes, from standard input to standard output: what the comparison with the Rust runs, and the gate on a list of the Rust's own answers.
 // A case is 29 words and bytes, as `frame_cases` has them: the 10 words of a record, the source pitches of Y, U and V (high and low word each), the lengths of the sources of Y, U and V and of frame, spill and scratch, what is asked for and the seed, and a row's part, level, plane and number; then the bytes, those of Y, U and V first.
 // The answer to the build is followed by that of the parts: the number and, where that is 0, start, pitch and length of Y, U and V, the frame's length and the needs of spill and scratch, two words each, the high one first. Last, the row's place in a frame of that length: the number and, where that is 0, offset and length likewise.
+#![tactic(auto)]
+
 use frame_cases::{
     earlier, long, put_bytes, put_long, put_number, put_tested, read_whole, record_of, too_long,
     word,

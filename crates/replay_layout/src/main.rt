@@ -2,6 +2,8 @@
 // A line is words of 8 hexadecimal digits (an integer as two's complement), parted by single spaces; a number of 64 bits is two words, the high one first.
 // In: the record's pel gpu down up full rc lean levels width height, the shifts, the pitch (two words).
 // Out: the layout's number, the count of levels, for each of 13 levels its offset (two words), width and height; the number of the written end and the end (two words); where no layout is made, the number is the layout's.
+#![tactic(auto)]
+
 ghost use Rattle.std.specs.Prelude.{◌<◌};
 
 use hex_lines::{bool_at, int_at, put_word, word_at};

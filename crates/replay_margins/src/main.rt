@@ -1,6 +1,8 @@
 // Answers cases about a frame's margins and rows, from standard input to standard output: what the comparison with the Rust runs, and the gate on a list of the Rust's own answers.
 // A case is 20 words and a frame: the 14 of a layout (see `frame_cases`), the frame's length, then level, plane and row, the kind and a zero.
 // Kind 0, clear the margins: the answer is the number (4 bytes) and the frame. Kind 1, a row: the number, the row's length (4 bytes each) and the row.
+#![tactic(auto)]
+
 use frame_cases::{after_making, laid_of, put_number, put_tested, record_of, word};
 use libc::{STDIN_FILENO, STDOUT_FILENO};
 use lookups::margins::clear_margins;

@@ -2,6 +2,8 @@
 // A case is 16 bytes and six rows of n bytes after each other: kind, filter, then y, h and n (2 bytes each), a setting (4, signed) and 4 zeros, the low byte first. The answer is n bytes.
 // Kinds: 0 means of rows 0 and 1; 1 a copy of row 0; 2 zeros; 3 a target row from the six; 4 rows 0 and 1, taken as one, halved; 5 the generic cubic's other columns; 6 half samples along row 0; 7 row y of h of the half samples down the rows; 8 the filter of a down setting; 9 whether target row y of h is an edge.
 // Filters: 1 average, 2 bilinear, 3 quadratic, 4 cubic; of half samples 1 bicubic, 2 Wiener.
+#![tactic(auto)]
+
 ghost use Rattle.std.specs.Prelude.{◌+◌, ◌*◌, ◌≤◌, ◌<◌, ◌≡◌, length};
 
 use filters::half_pel::HalfPel;
@@ -11,7 +13,7 @@ use libc::{STDIN_FILENO, STDOUT_FILENO};
 
 const MOST: usize = 4096;
 
-#[derive(Drop)]
+#[derive(Clone, Copy)]
 struct Case {
     kind: u8,
     filter: u8,

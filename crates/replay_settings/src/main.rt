@@ -2,6 +2,8 @@
 // A line is words of 8 hexadecimal digits (an integer as two's complement), parted by single spaces.
 // In: which settings are given (bit 0 pel, 1 gpu, 2 down, 3 up, 4 full, 5 rc, 6 lean), then pel gpu down up full rc lean levels width height. Bit 8: the ten are a record, to be tested as it stands.
 // Out: the number of the check (of a record: 0 or 6), the ten values of the record, the number and the two halves of its word, the number and value of its super height, and those of its super width.
+#![tactic(auto)]
+
 
 ghost use Rattle.std.specs.Prelude.{◌<◌};
 

@@ -4,6 +4,8 @@
 //     numbers     integers and bools read as numbers
 //     super_opts  settings, `SuperOpts` and its calls: check, accepted, word, super sizes
 //     word        a word read back, and two words compared
+#![tactic(auto)]
+
 pub mod limits;
 pub mod numbers;
 pub mod refusal;

@@ -6,7 +6,7 @@ ghost use Rattle.settings.specs.Numbers.{refuse, ◌then◌};
 ghost use Rattle.settings.specs.Answers.{setting_number, layout_number, lent_number, longhand_number, word_number, planes_number, number, tested};
 
 // Why a call is refused: "Numbers a call can give" of document 01, and those of document 02, by what is at fault.
-#[derive(Drop)]
+#[derive(Clone, Copy)]
 pub enum Refusal {
     Setting(BadSetting),
     NoRecord,
@@ -19,7 +19,7 @@ pub enum Refusal {
     Planes(BadPlanes),
 }
 
-#[derive(Drop)]
+#[derive(Clone, Copy)]
 pub enum BadSetting {
     Pel,
     Gpu,
@@ -28,7 +28,7 @@ pub enum BadSetting {
     Side,
 }
 
-#[derive(Drop)]
+#[derive(Clone, Copy)]
 pub enum BadLayout {
     Shift,
     Pitch,
@@ -36,7 +36,7 @@ pub enum BadLayout {
 }
 
 // Of what a call is lent.
-#[derive(Drop)]
+#[derive(Clone, Copy)]
 pub enum BadLent {
     SourcePitch,
     Source,
@@ -45,14 +45,14 @@ pub enum BadLent {
     Scratch,
 }
 
-#[derive(Drop)]
+#[derive(Clone, Copy)]
 pub enum BadLonghand {
     Short,
     Length,
     Contents,
 }
 
-#[derive(Drop)]
+#[derive(Clone, Copy)]
 pub enum BadWord {
     NoCode,
     Halving,
@@ -60,14 +60,14 @@ pub enum BadWord {
 }
 
 // Of a record that a frame of three planes is asked for.
-#[derive(Drop)]
+#[derive(Clone, Copy)]
 pub enum BadPlanes {
     Side,
     Full,
 }
 
 // What a row of tests says: nothing against it, or the first that applies.
-#[derive(Drop)]
+#[derive(Clone, Copy)]
 pub enum Tested {
     Fine,
     Refused(Refusal),

@@ -15,19 +15,19 @@ use crate::refusal::{BadSetting, Refusal, Tested};
 
 const DEFAULT_SCALE_DOWN: i32 = 4;
 
-#[derive(Drop)]
+#[derive(Clone, Copy)]
 pub enum OptInt {
     Given(i32),
     Absent,
 }
 
-#[derive(Drop)]
+#[derive(Clone, Copy)]
 pub enum OptBool {
     Given(bool),
     Absent,
 }
 
-#[derive(Drop)]
+#[derive(Clone, Copy)]
 pub struct Settings {
     pub pel: OptInt,
     pub gpu: OptInt,
@@ -38,7 +38,7 @@ pub struct Settings {
     pub lean: OptBool,
 }
 
-#[derive(Drop)]
+#[derive(Clone, Copy)]
 pub struct SuperOpts {
     pub pel: i32,
     pub gpu: i32,
@@ -53,7 +53,7 @@ pub struct SuperOpts {
 }
 
 // The numbers of a record; 0 for what is below 0.
-#[derive(Drop)]
+#[derive(Clone, Copy)]
 pub struct Naturals {
     pub pel: u32,
     pub gpu: u32,
@@ -62,19 +62,19 @@ pub struct Naturals {
     pub height: u32,
 }
 
-#[derive(Drop)]
+#[derive(Clone, Copy)]
 pub enum Checked {
     Accepted(SuperOpts),
     Refused(Refusal),
 }
 
-#[derive(Drop)]
+#[derive(Clone, Copy)]
 pub enum Packed {
     Word(u64),
     Refused(Refusal),
 }
 
-#[derive(Drop)]
+#[derive(Clone, Copy)]
 pub enum Sized {
     Size(i32),
     Refused(Refusal),

@@ -8,7 +8,7 @@ use crate::refusal::{BadWord, Refusal, Tested};
 use crate::super_opts::{OptInt, Packed, SuperOpts};
 
 // What a word tells. A setting that doesn't matter is absent.
-#[derive(Drop)]
+#[derive(Clone, Copy)]
 pub struct Description {
     pub width: i32,
     pub height: i32,
@@ -22,7 +22,7 @@ pub struct Description {
     pub up: OptInt,
 }
 
-#[derive(Drop)]
+#[derive(Clone, Copy)]
 pub enum Told {
     Tells(Description),
     Refused(Refusal),

@@ -37,7 +37,7 @@ const STEP: usize = 3;
 pub const LAYOUT: usize = HEAD + STEP * MOST_LEVELS;
 
 // A layout that is made; zeros where it is refused.
-#[derive(Drop)]
+#[derive(Clone, Copy)]
 pub struct Laid {
     pub tested: Tested,
     pub layout: [usize; LAYOUT],

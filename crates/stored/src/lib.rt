@@ -1,2 +1,4 @@
 // A plane's layout, stored: made once, tested and changed. What is asked of a frame by it is in `lookups`. Document 02, order 5.
+#![tactic(auto)]
+
 pub mod layout;

@@ -1,0 +1,9 @@
+-- `ReduceFilter::reduce_row` meets its contract. Assumes nothing.
+use mathlib.Core.Path.{◌∙◌}
+use lib.ListN.{length, length-set}
+use borrow.Author.Rules.{rules}
+use Rattle.filters.proofs.Pairs.{reduced}
+use Rattle.filters.proofs.halving.ReduceFilter.reduce_row.Goals as goal
+
+pub returns : goal.returns
+returns c = let a = c.args in reduced a.self (length a.out.now) a.split.now c.weigh_apart.ensures c.put_last.ensures

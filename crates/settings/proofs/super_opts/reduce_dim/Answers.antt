@@ -1,0 +1,13 @@
+use mathlib.Core.Path.{◌≡◌, refl, sym, ap, ◌∙◌}
+use Prim.Native.Nat.{◌≤◌, ◌-◌}
+use native.Mathlib.Omega.{arith}
+use Rattle.settings.specs.Sizes.{reduce, reduced}
+use Rattle.settings.proofs.Levels.{reduced_next}
+use Rattle.settings.proofs.super_opts.reduce_dim.Goals as goal
+
+pub loop-init : goal.loop-init
+unfolding reduced
+loop-init c = (refl, omega arith)
+
+pub loop-preserved : goal.loop-preserved
+loop-preserved c = let l = c in (c.reduce_once-d.ensures ∙ ap reduce l.loop.invariant.0 ∙ sym (reduced_next l.args.dim l.loop.counter), omega arith)
