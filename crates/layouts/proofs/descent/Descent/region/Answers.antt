@@ -1,0 +1,13 @@
+-- `region` meets its contract. Assumes nothing.
+use mathlib.Core.Path.{ap}
+use Prim.Native.Nat.{◌/◌, ◌^◌}
+use native.Mathlib.Omega.{arith}
+use Rattle.layouts.specs.declared.descent.Descent.{Descent}
+use Rattle.layouts.proofs.Layouts.{allowed, width_le, height_le}
+use Rattle.layouts.proofs.descent.Descent.region.Goals as goal
+
+pub overflow_shr-result : goal.overflow_shr-result
+overflow_shr-result c = let s = c in omega (arith, (allowed s.args.layout s.requires.0).x)
+
+pub overflow_shr-result-2 : goal.overflow_shr-result-2
+overflow_shr-result-2 c = let s = c in omega (arith, (allowed s.args.layout s.requires.0).y)

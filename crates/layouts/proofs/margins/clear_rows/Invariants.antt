@@ -1,0 +1,16 @@
+-- `clear_rows` meets its contract. The loop has cleared the rows passed. Assumes nothing.
+use mathlib.Core.Path.{◌≡◌, ap, ◌∙◌}
+use Prim.Native.Nat.{ℕ, ◌+◌, ◌*◌, ◌-◌, ◌≤◌}
+use native.Mathlib.Omega.{arith}
+use lib.ListN.{length, replicate}
+use borrow.Author.Rules.{rules}
+use Rattle.layouts.specs.Storing.{put}
+use Rattle.layouts.specs.Margins.{clear_from}
+use Rattle.layouts.proofs.Loops.{put_zeros, row_in, Walked, walked_none, walked_more, walked_whole, next_fits, next_less}
+use Rattle.layouts.proofs.margins.clear_rows.Given as goal
+
+abbrev pub invariant-loop-y : goal.invariant-loop-y
+invariant-loop-y l = Walked (λ i d. put d (l.target.offset + i * l.pitch + l.target.width) (replicate (l.pitch - l.target.width) 0)) l.initial.frame l.frame l.height l.y
+
+abbrev pub decreases-loop-y : goal.decreases-loop-y
+decreases-loop-y l = l.height - l.y

@@ -1,0 +1,17 @@
+use mathlib.Core.Path.{◌≡◌}
+use Prim.Native.Nat.{◌+◌, ◌≤◌, ◌-◌}
+use native.Mathlib.Omega.{arith}
+use borrow.Author.Tests.{eq-eqb, ne_eqb}
+use lib.ListN.{length, get_or, drop}
+use Rattle.lines.specs.Parting.{before}
+use Rattle.lines.proofs.Parted.{before_next, before_end}
+use Rattle.lines.proofs.parting.bytes_before.Goals as goal
+
+pub returns-then-line-at : goal.returns-then-line-at
+returns-then-line-at c = let l = c in let a = l.args in (omega (arith, rw (before_next a.b a.line.now l.loop-at.at (omega arith), eq-eqb (get_or a.line.now l.loop-at.at 0) a.b c.if-line-at.true) at l.loop-at.invariant.0), omega arith)
+
+pub loop-at-preserved : goal.loop-at-preserved
+loop-at-preserved c = let l = c in let a = l.args in (omega (arith, rw (before_next a.b a.line.now l.loop-at.at (omega arith), ne_eqb (get_or a.line.now l.loop-at.at 0) a.b c.if-line-at.false) at l.loop-at.invariant.0), omega arith)
+
+pub returns : goal.returns
+returns c = let l = c in let a = l.args in (omega (arith, l.loop-at.invariant.0, before_end a.b a.line.now l.loop-at.at (omega arith)), omega arith)
