@@ -25,12 +25,10 @@ pub returns-in-Tells : goal.returns-in-Tells
 unfolding word_line
 returns-in-Tells c = let t = c in
     let line = t.args.line.now in
-    let d = c.d-1.given in
-    said (ap (text line) (sym (ap told d.1) ∙ t.read_word.ensures)) (wider 254 (omega arith) (c.with_description.ensures after c.with_number.ensures after t.with_bytes-spelled.ensures))
+    said (ap (text line) c.in-Tells.ensures) (wider 254 (omega arith) (c.with_description.ensures after c.with_number.ensures after t.with_bytes-spelled.ensures))
 
 pub returns-in-Refused : goal.returns-in-Refused
 unfolding word_line
 returns-in-Refused c = let t = c in
     let line = t.args.line.now in
-    let f = c.f-1.given in
-    said (closed line f.0.0 ∙ ap (text line) (sym (ap told f.1) ∙ t.read_word.ensures)) (wider 254 (omega arith) (said (ap (λ (n : ℕ). spaced (decimal n)) c.number.ensures) c.with_number-in-Refused.ensures after t.with_bytes-spelled.ensures))
+    said (closed line c.in-Refused.f ∙ ap (text line) c.in-Refused.ensures) (wider 254 (omega arith) (said (ap (λ (n : ℕ). spaced (decimal n)) c.number.ensures) c.with_number-in-Refused.ensures after t.with_bytes-spelled.ensures))
