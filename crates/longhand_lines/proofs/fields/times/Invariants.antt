@@ -1,0 +1,16 @@
+-- `times` meets its contract. So far so many were b. Assumes nothing.
+use mathlib.Core.Path.{◌≡◌}
+use Prim.Native.Nat.{◌+◌, ◌≤◌, ◌-◌}
+use native.Mathlib.Omega.{arith}
+use lib.Dec.{eqb}
+use lib.ListN.{length, get_or, drop}
+use Rattle.lines.proofs.Lines.{is_bit_lem, bit_small}
+use Rattle.longhand_lines.specs.Fields.{times}
+use Rattle.longhand_lines.proofs.Parts.{times_next, times_end}
+use Rattle.longhand_lines.proofs.fields.times.Given as goal
+
+abbrev pub invariant-loop-i : goal.invariant-loop-i
+invariant-loop-i l = (l.n + times l.b (drop l.i l.line) ≡ times l.b l.line) × (l.n ≤ l.i) × (l.i ≤ length l.line)
+
+abbrev pub decreases-loop-i : goal.decreases-loop-i
+decreases-loop-i l = length l.line - l.i

@@ -1,0 +1,14 @@
+-- `spell` meets its contract. So far the first bytes stand there. Assumes nothing.
+use mathlib.Core.Path.{◌≡◌, sym, ap, ◌∙◌}
+use Prim.Native.Nat.{ℕ, ◌+◌, ◌*◌, ◌-◌, ◌/◌}
+use native.Mathlib.Omega.{arith}
+use lib.ListN.{length, take}
+use Rattle.lines.proofs.Lines.{digit_at}
+use Rattle.longhand_lines.proofs.Spelling.{Spelled, spelled_none, spelled_more, spelled_whole}
+use Rattle.longhand_lines.proofs.hex.spell.Given as goal
+
+abbrev pub invariant-loop-i : goal.invariant-loop-i
+invariant-loop-i l = Spelled l.line l.initial.out l.out l.i
+
+abbrev pub decreases-loop-i : goal.decreases-loop-i
+decreases-loop-i l = length l.line / 2 - l.i
