@@ -1,0 +1,35 @@
+use mathlib.Core.Path.{◌≡◌, sym, ap, ◌∙◌}
+use mathlib.Core.Bool.{true, false}
+use mathlib.Core.Logic.{⊎_elim}
+use Prim.Native.Nat.{ℕ, ◌-◌, ◌≤◌, ◌<◌}
+use native.Mathlib.Nat.{eq-or-lt_of_le}
+use native.Mathlib.Omega.{arith}
+use borrow.Author.Tests.{not-true, not-false}
+use Rattle.settings.specs.Limits.{most_levels}
+use Rattle.filters.proofs.Tests.{below_or}
+use Rattle.layouts.specs.declared.layout.Region.{Region}
+use Rattle.layouts.specs.Layout.{no_region}
+use Rattle.layouts.proofs.Loops.{next_less}
+use Rattle.layouts.proofs.Layouts.{region_none}
+use Rattle.stored.specs.Inner.{region_in, same_region, same_at}
+use Rattle.stored.proofs.Exact.{every_yes, every_at, every_no}
+use Rattle.stored.proofs.layout.ends_in_zeros.Goals as goal
+
+pub returns-then-not-same_region : goal.returns-then-not-same_region
+returns-then-not-same_region c = 
+    let found : c.same_region.result ≡ same_region (region_in c.args.numbers.now c.loop-level.level) no_region = c.same_region.ensures ∙ ap (λ (x : Region). same_region x no_region) c.region_in.ensures in
+    let turn = c in
+    let l = turn.loop-level in
+    let s = turn in
+    let q = s.args.layout in
+    let none = region_none q l.level (omega (arith, s.requires.1, l.invariant.0)) in
+    let other : same_at q s.args.numbers.now l.level ≡ false = ap (same_region (region_in s.args.numbers.now l.level)) none ∙ sym (found) ∙ not-true c.same_region.result c.if-not-same_region.true-raw in
+    sym (every_no (same_at q s.args.numbers.now) most_levels l.level (omega (arith, turn.loop-level-test.true)) other)
+
+pub returns : goal.returns
+returns c = let l = c.loop-level in
+    let s = c in
+    let q = s.args.layout in
+    let numbers = s.args.numbers.now in
+    let past : (j : ℕ) → j < most_levels → s.args.levels ≤ j → same_at q numbers j ≡ true = λ j lt le. ap (same_region (region_in numbers j)) (region_none q j (omega (arith, s.requires.1))) ∙ l.invariant.1 j le (omega (arith, c.loop-level-test.false)) in
+    sym (every_yes (same_at q numbers) most_levels (λ j lt. ⊎_elim (λ (k : j < s.args.levels). every_at (same_at q numbers) s.args.levels s.requires.3 j k) (past j lt) (below_or j s.args.levels)))
