@@ -1,0 +1,26 @@
+use mathlib.Core.Path.{◌≡◌, refl, ◌∙◌}
+use Prim.Native.Nat.{◌+◌, ◌*◌, ◌-◌}
+use native.Mathlib.Nat.{le_refl}
+use native.Mathlib.Omega.{arith}
+use lib.ListN.{length}
+use Rattle.layouts.proofs.Loops.{row_fits, Walked, walked_none, walked_more, walked_whole, next_fits, next_less}
+use borrow.Author.Rules.{rules}
+use Rattle.builder.specs.Halving.{halve_run, horizontal_rows}
+use Rattle.builder.proofs.Halves.{halve_alone}
+use Rattle.builder.proofs.halving.horizontal_rows.Goals as goal
+
+pub loop-y-init : goal.loop-y-init
+loop-y-init c = (walked_none, refl)
+
+pub loop-y-preserved : goal.loop-y-preserved
+loop-y-preserved c = let s = c in
+    let l = c.loop-y in
+    let lt = c.loop-y-test.true in
+    let v = c.finish_row in
+    let w = s.args.target.width in
+    let at = s.args.target.offset + l.y * s.args.pitch in
+    (walked_more l.invariant.0 lt v.auto.1.0 (v.ensures ∙ halve_alone s.args.filter w at _ (omega (arith, row_fits _ _ _ _ _ _ s.requires.1 s.requires.2 lt, l.invariant.0.same))), v.auto.1.1.0 ∙ l.invariant.1)
+
+pub returns : goal.returns
+unfolding horizontal_rows
+returns c = walked_whole c.loop-y.invariant.0 c.loop-y-test.false

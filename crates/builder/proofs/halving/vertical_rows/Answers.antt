@@ -1,0 +1,21 @@
+use mathlib.Core.Path.{◌≡◌, refl, ◌∙◌}
+use Prim.Native.Nat.{◌+◌, ◌*◌, ◌-◌}
+use native.Mathlib.Omega.{arith}
+use lib.ListN.{length}
+use Rattle.layouts.specs.Storing.{put}
+use Rattle.layouts.proofs.Loops.{Walked, walked_none, walked_more, walked_whole, next_less}
+use Rattle.builder.specs.Halving.{whole_of, vertical_line, vertical_rows}
+use Rattle.builder.proofs.Halves.{within_kept}
+use Rattle.builder.proofs.halving.vertical_rows.Goals as goal
+
+pub loop-y-init : goal.loop-y-init
+loop-y-init c = (walked_none, refl)
+
+pub loop-y-preserved : goal.loop-y-preserved
+loop-y-preserved c = let l = c.loop-y in
+    let v = c.vertical_row in
+    (walked_more l.invariant.0 c.loop-y-test.true v.auto.1.0 v.ensures, v.auto.1.1.0 ∙ l.invariant.1)
+
+pub returns : goal.returns
+unfolding vertical_rows
+returns c = walked_whole c.loop-y.invariant.0 c.loop-y-test.false

@@ -1,0 +1,16 @@
+-- `close_up` meets its contract. The loop has closed up the rows passed. Assumes nothing.
+use Prim.Native.Nat.{◌+◌, ◌*◌, ◌-◌, ◌≤◌}
+use native.Mathlib.Omega.{arith}
+use lib.ListN.{length}
+use Rattle.layouts.proofs.Loops.{walked_whole, next_fits, next_less}
+use Rattle.builder.specs.Canvas.{copy_run}
+use Rattle.builder.specs.Halving.{close_up}
+use Rattle.builder.proofs.Runs.{Passed, passed_none, passed_next}
+use Rattle.builder.proofs.Spreads.{spread_row, closed_row}
+use Rattle.builder.proofs.separate.close_up.Given as goal
+
+abbrev pub invariant-loop-y : goal.invariant-loop-y
+invariant-loop-y l = (1 ≤ l.y) × Passed (λ i. copy_run (l.target.offset + (i + 1) * (2 * l.pitch)) (l.target.offset + (i + 1) * l.pitch) l.pitch) l.initial.frame l.initial.spill l.initial.scratch l.frame l.spill l.scratch (l.height - 1) (l.y - 1)
+
+abbrev pub decreases-loop-y : goal.decreases-loop-y
+decreases-loop-y l = l.height - l.y

@@ -1,0 +1,21 @@
+use mathlib.Core.Path.{◌≡◌, refl, ◌∙◌}
+use Prim.Native.Nat.{◌+◌, ◌*◌, ◌-◌, ◌≤◌}
+use native.Mathlib.Omega.{arith}
+use lib.ListN.{length}
+use Rattle.layouts.proofs.Loops.{walked_whole, next_fits, next_less}
+use Rattle.builder.specs.Halving.{halve_run, horizontal_rows}
+use Rattle.builder.proofs.Runs.{Passed, passed_none, passed_more}
+use Rattle.builder.proofs.Spreads.{spread_row}
+use Rattle.builder.proofs.separate.spread_horizontal.Goals as goal
+
+pub loop-y-init : goal.loop-y-init
+loop-y-init c = (passed_none, refl)
+
+pub loop-y-preserved : goal.loop-y-preserved
+loop-y-preserved c = let l = c.loop-y in
+    let r = c.spread_halve_row in
+    (passed_more l.invariant.0 c.loop-y-test.true r.auto.1.0 r.auto.1.1.0 r.auto.1.1.1.0 r.ensures, r.auto.1.1.1.1.0 ∙ l.invariant.1)
+
+pub returns : goal.returns
+unfolding horizontal_rows
+returns c = walked_whole c.loop-y.invariant.0.walk c.loop-y-test.false

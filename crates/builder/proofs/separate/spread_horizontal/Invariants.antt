@@ -1,0 +1,16 @@
+-- `spread_horizontal` meets its contract. The loop has halved the rows passed. Assumes nothing.
+use mathlib.Core.Path.{◌≡◌, refl, ◌∙◌}
+use Prim.Native.Nat.{◌+◌, ◌*◌, ◌-◌, ◌≤◌}
+use native.Mathlib.Omega.{arith}
+use lib.ListN.{length}
+use Rattle.layouts.proofs.Loops.{walked_whole, next_fits, next_less}
+use Rattle.builder.specs.Halving.{halve_run, horizontal_rows}
+use Rattle.builder.proofs.Runs.{Passed, passed_none, passed_more}
+use Rattle.builder.proofs.Spreads.{spread_row}
+use Rattle.builder.proofs.separate.spread_horizontal.Given as goal
+
+abbrev pub invariant-loop-y : goal.invariant-loop-y
+invariant-loop-y l = Passed (λ i. halve_run l.filter l.target.width (l.target.offset + i * (2 * l.pitch))) l.initial.frame l.initial.spill l.initial.scratch l.frame l.spill l.scratch l.height l.y × (length l.split ≡ length l.initial.split)
+
+abbrev pub decreases-loop-y : goal.decreases-loop-y
+decreases-loop-y l = l.height - l.y

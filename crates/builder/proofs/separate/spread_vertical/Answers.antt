@@ -1,0 +1,18 @@
+use Prim.Native.Nat.{◌+◌, ◌*◌, ◌-◌}
+use native.Mathlib.Omega.{arith}
+use Rattle.layouts.specs.Storing.{put}
+use Rattle.layouts.proofs.Loops.{walked_whole, next_less}
+use Rattle.builder.specs.Halving.{whole_of, vertical_line, vertical_rows}
+use Rattle.builder.proofs.Runs.{Passed, passed_none, passed_more}
+use Rattle.builder.proofs.Spreads.{spread_kept}
+use Rattle.builder.proofs.separate.spread_vertical.Goals as goal
+
+pub loop-y-init : goal.loop-y-init
+loop-y-init c = passed_none
+
+pub loop-y-preserved : goal.loop-y-preserved
+loop-y-preserved c = let r = c.spread_vertical_row in passed_more c.loop-y.invariant c.loop-y-test.true r.auto.1.0 r.auto.1.1.0 r.auto.1.1.1.0 r.ensures
+
+pub returns : goal.returns
+unfolding vertical_rows
+returns c = walked_whole c.loop-y.invariant.walk c.loop-y-test.false
