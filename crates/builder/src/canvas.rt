@@ -1,7 +1,7 @@
 // The canvas: a frame and, past its end, the lent spill, as one run of bytes. Reading past both gives 0.
 // Reading, a part that is a window on it, and storing. Each run is cut once, where the frame ends, and no byte is tested by itself.
 ghost use Rattle.std.specs.Prelude.{◌≡◌, cond, ◌++◌, ◌+◌, ◌-◌, ◌≤◌, length, replicate, leb};
-ghost use Rattle.layouts.specs.Storing.{put, part_at};
+ghost use Rattle.layouts.specs.Storing.{put, part_at, part_at_mut};
 ghost use Rattle.builder.specs.Canvas.{fetch};
 
 use filters::rows::{copy_row, zero_row};
@@ -58,7 +58,7 @@ fn fetched<'a>(
     n: usize,
 ) -> &'a [u8]
     requires { n ≤ length scratch.old }
-    ensures { (result.now ≡ fetch (frame.now ++ spill.now) start n) × (length result.now ≡ n) × (result.ref_ptr ≡ part_at scratch.entry 0) }
+    ensures { (result.now ≡ fetch (frame.now ++ spill.now) start n) × (length result.now ≡ n) × (result.ref_ptr ≡ part_at_mut scratch.entry 0) }
 {
     let out = &mut scratch[..n];
     fetch(out, frame, spill, start);
@@ -74,7 +74,7 @@ pub(crate) fn window<'a>(
     n: usize,
 ) -> &'a [u8]
     requires { n ≤ length scratch.old }
-    ensures { (result.now ≡ fetch (frame.now ++ spill.now) start n) × (length result.now ≡ n) × (result.ref_ptr ≡ cond (leb (start + n) (length frame.now)) (part_at frame.entry start) (part_at scratch.entry 0)) }
+    ensures { (result.now ≡ fetch (frame.now ++ spill.now) start n) × (length result.now ≡ n) × (result.ref_ptr ≡ cond (leb (start + n) (length frame.now)) (part_at frame.entry start) (part_at_mut scratch.entry 0)) }
 {
     let len = frame.len();
     if len < start {

@@ -1,6 +1,6 @@
 -- A run stored in a list of bytes, steps in order, and where a part of a lent slice lies.
 use Rattle.std.specs.Prelude.{ℕ, zero, suc, ◌+◌, ◌-◌, List, ◌++◌, take, drop, length, replicate}
-use Rattle.std.specs.Borrow.{Bor}
+use Rattle.std.specs.Borrow.{Bor, MutBor}
 
 -- c with the run ys stored at at; where c ends before at, zeros lie between, as reading there gave
 unfoldable pub put : List ℕ → ℕ → List ℕ → List ℕ
@@ -14,3 +14,7 @@ steps step (suc n) c = step n (steps step n c)
 -- the place in memory of the part of s from its byte `at` on: a part that lies there is s's own bytes and no copy
 abbrev pub part_at : Bor (List ℕ) → ℕ → ℕ × ℕ
 part_at s at = (s.ref_ptr.0, at + s.ref_ptr.1)
+
+-- the same of a slice that is lent to be written
+abbrev pub part_at_mut : MutBor (List ℕ) → ℕ → ℕ × ℕ
+part_at_mut s at = (s.ref_ptr.0, at + s.ref_ptr.1)
