@@ -19,7 +19,7 @@ loop-y-preserved c = let s = c in
     let v = c.finish_row in
     let w = s.args.target.width in
     let at = s.args.target.offset + l.y * s.args.pitch in
-    (walked_more l.invariant.0 lt v.auto.1.0 (v.ensures ∙ halve_alone s.args.filter w at _ (omega (arith, row_fits _ _ _ _ _ _ s.requires.1 s.requires.2 lt, l.invariant.0.same))), v.auto.1.1.0 ∙ l.invariant.1)
+    (walked_more l.invariant.0 lt v.auto.frame (v.ensures ∙ halve_alone s.args.filter w at _ (omega (arith, row_fits _ _ _ _ _ _ s.requires.1 s.requires.2 lt, l.invariant.0.same))), v.auto.scratch ∙ l.invariant.1)
 
 pub returns : goal.returns
 unfolding horizontal_rows

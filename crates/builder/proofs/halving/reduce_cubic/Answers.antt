@@ -17,7 +17,7 @@ loop-y-preserved c = let s = c in
     let t = s.args.target in
     let l = c.loop-y in
     let v = c.fused_row in
-    (walked_more l.invariant.0 c.loop-y-test.true v.auto.0 (v.ensures ∙ ap (λ (n : ℕ). put l.frame (t.offset + l.y * s.args.pitch) (fused_line s.args.pitch t.width (vertical_line Cubic n (2 * t.width) t.height l.frame s.args.base s.args.pitch l.y))) s.requires.1), v.auto.1.0 ∙ l.invariant.1)
+    (walked_more l.invariant.0 c.loop-y-test.true v.auto.frame (v.ensures ∙ ap (λ (n : ℕ). put l.frame (t.offset + l.y * s.args.pitch) (fused_line s.args.pitch t.width (vertical_line Cubic n (2 * t.width) t.height l.frame s.args.base s.args.pitch l.y))) s.requires.1), v.auto.scratch ∙ l.invariant.1)
 
 pub returns : goal.returns
 unfolding fused

@@ -14,7 +14,7 @@ loop-y-init c = (walked_none, refl)
 pub loop-y-preserved : goal.loop-y-preserved
 loop-y-preserved c = let l = c.loop-y in
     let v = c.vertical_row in
-    (walked_more l.invariant.0 c.loop-y-test.true v.auto.1.0 v.ensures, v.auto.1.1.0 ∙ l.invariant.1)
+    (walked_more l.invariant.0 c.loop-y-test.true v.auto.frame v.ensures, v.auto.scratch ∙ l.invariant.1)
 
 pub returns : goal.returns
 unfolding vertical_rows

@@ -25,3 +25,4 @@ loop-i-preserved c = let l = c.loop-i in
 
 pub returns : goal.returns
 returns c = let a = c.args in laid_whole c.loop-i.invariant (omega arith) ∙ pair_laid a.frame.now a.t a.l a.r a.n
+

@@ -27,7 +27,7 @@ loop-k-preserved c = let at-quarter = c in
     let q = at-quarter.quarter in
     let l = at-loop.loop-k in
     let v = l.invariant in
-    passed_more v at-loop-test.loop-k-test.true q.auto.0 q.auto.1.0 q.auto.1.1.0 q.ensures
+    passed_more v at-loop-test.loop-k-test.true q.auto.frame q.auto.spill q.auto.scratch q.ensures
 
 pub returns : goal.returns
 returns c = let a = c.args in walked_whole c.loop-k.invariant.walk c.loop-k-test.false ∙ table_walked a.i (a.frame.now ++ a.spill.now)

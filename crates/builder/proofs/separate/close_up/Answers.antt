@@ -15,7 +15,7 @@ pub loop-y-preserved : goal.loop-y-preserved
 loop-y-preserved c = let a = c.args in
     let l = c.loop-y in
     let r = c.close_row in
-    (omega arith, passed_next (λ y. copy_run (a.target.offset + y * (2 * a.pitch)) (a.target.offset + y * a.pitch) a.pitch) l.invariant.0 l.invariant.1 c.loop-y-test.true r.auto.0 r.auto.1.0 r.auto.1.1.0 r.ensures)
+    (omega arith, passed_next (λ y. copy_run (a.target.offset + y * (2 * a.pitch)) (a.target.offset + y * a.pitch) a.pitch) l.invariant.0 l.invariant.1 c.loop-y-test.true r.auto.frame r.auto.spill r.auto.scratch r.ensures)
 
 pub returns : goal.returns
 unfolding close_up

@@ -15,7 +15,7 @@ returns c = let s = c in
     let a = s.args in
     let d = a.frame.now ++ a.spill.now in
     let k = c.take_row in
-    let e = half_line a.w k.new.1.1.1.0 k.auto.1.1.1.0 s.requires.2 in
+    let e = half_line a.w k.new.scratch k.auto.scratch s.requires.2 in
     c.store.ensures
-    ∙ ap (put d a.at) (c.reduce_row.ensures ∙ ap (λ (n : ℕ). reduced_apart a.filter n k.new.0) e)
+    ∙ ap (put d a.at) (c.reduce_row.ensures ∙ ap (λ (n : ℕ). reduced_apart a.filter n k.new.split) e)
     ∙ halved_run a.filter a.w a.at d s.requires.0 k.ensures

@@ -14,7 +14,7 @@ loop-y-init c = (passed_none, refl)
 pub loop-y-preserved : goal.loop-y-preserved
 loop-y-preserved c = let l = c.loop-y in
     let r = c.spread_halve_row in
-    (passed_more l.invariant.0 c.loop-y-test.true r.auto.1.0 r.auto.1.1.0 r.auto.1.1.1.0 r.ensures, r.auto.1.1.1.1.0 ∙ l.invariant.1)
+    (passed_more l.invariant.0 c.loop-y-test.true r.auto.frame r.auto.spill r.auto.scratch r.ensures, r.auto.split ∙ l.invariant.1)
 
 pub returns : goal.returns
 unfolding horizontal_rows

@@ -11,7 +11,7 @@ pub loop-y-init : goal.loop-y-init
 loop-y-init c = passed_none
 
 pub loop-y-preserved : goal.loop-y-preserved
-loop-y-preserved c = let r = c.spread_vertical_row in passed_more c.loop-y.invariant c.loop-y-test.true r.auto.1.0 r.auto.1.1.0 r.auto.1.1.1.0 r.ensures
+loop-y-preserved c = let r = c.spread_vertical_row in passed_more c.loop-y.invariant c.loop-y-test.true r.auto.frame r.auto.spill r.auto.scratch r.ensures
 
 pub returns : goal.returns
 unfolding vertical_rows

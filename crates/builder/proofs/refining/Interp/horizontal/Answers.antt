@@ -16,7 +16,7 @@ pub loop-y-preserved : goal.loop-y-preserved
 loop-y-preserved c = let at-horizontal-row = c in
     let at-loop-test = at-horizontal-row in
     let at-loop = at-loop-test in
-    (walked_more at-loop.loop-y.invariant.0 at-loop-test.loop-y-test.true at-horizontal-row.horizontal_row.auto.1.1.0 at-horizontal-row.horizontal_row.ensures, at-horizontal-row.horizontal_row.auto.1.1.1.0 ∙ at-loop.loop-y.invariant.1)
+    (walked_more at-loop.loop-y.invariant.0 at-loop-test.loop-y-test.true at-horizontal-row.horizontal_row.auto.frame at-horizontal-row.horizontal_row.ensures, at-horizontal-row.horizontal_row.auto.scratch ∙ at-loop.loop-y.invariant.1)
 
 pub returns : goal.returns
 unfolding horizontal_plane

@@ -17,7 +17,7 @@ loop-k-preserved c = let q = c.mean_block in
     let p = a.self.pitch in
     let at = l.k * 64 in
     let same : at ≡ 0 + at = omega arith in
-    walked_more l.invariant c.loop-k-test.true q.auto.0
+    walked_more l.invariant c.loop-k-test.true q.auto.frame
     (q.ensures ∙ ap (λ (s : ℕ). l.frame ▷ pair_run (a.a + at) s (1 + at) 64 ▷ pair_run (a.b + at) s (p + at) 64 ▷ pair_run (a.d + at) s (p + 1 + at) 64) same)
 
 pub returns : goal.returns

@@ -18,7 +18,7 @@ loop-y-preserved c = let at-pair-row = c in
     let q = at-pair-row.pair_row in
     let l = at-loop.loop-y in
     let v = l.invariant in
-    passed_more v at-loop-test.loop-y-test.true q.auto.0 q.auto.1.0 q.auto.1.1.0 q.ensures
+    passed_more v at-loop-test.loop-y-test.true q.auto.frame q.auto.spill q.auto.scratch q.ensures
 
 pub returns : goal.returns
 unfolding pair_plane

@@ -21,7 +21,7 @@ returns c = let at-copy-first-row = c in
     let F = at_pair.pair.new.frame in
     let S = at_pair.pair.new.spill in
     let t = at-plane.plane-t.result in
-    let fits = first_row_fits (planes_kept entered.requires.1 at_pair.pair.auto.1.0 at_pair.pair.auto.1.1.1.0) entered.args.k _ entered.args.s (omega arith) at-plane.plane-t.ensures entered.requires.0.first in
+    let fits = first_row_fits (planes_kept entered.requires.1 at_pair.pair.auto.frame at_pair.pair.auto.scratch) entered.args.k _ entered.args.s (omega arith) at-plane.plane-t.ensures entered.requires.0.first in
     ap (λ (x : List ℕ). x ++ S) at-copy-first-row.copy_first_row.ensures
     ∙ (copy_inside (length F) a.s t i.width fits.0 fits.1).aside F S refl
     ∙ ap (copy_run a.s t i.width) at_pair.pair.ensures

@@ -14,7 +14,7 @@ pub loop-y-preserved : goal.loop-y-preserved
 loop-y-preserved c = let at-vertical-row = c in
     let at-loop-test = at-vertical-row in
     let at-loop = at-loop-test in
-    (walked_more at-loop.loop-y.invariant.0 at-loop-test.loop-y-test.true at-vertical-row.vertical_row.auto.1.1.0 at-vertical-row.vertical_row.ensures, at-vertical-row.vertical_row.auto.1.1.1.0 ∙ at-loop.loop-y.invariant.1)
+    (walked_more at-loop.loop-y.invariant.0 at-loop-test.loop-y-test.true at-vertical-row.vertical_row.auto.frame at-vertical-row.vertical_row.ensures, at-vertical-row.vertical_row.auto.scratch ∙ at-loop.loop-y.invariant.1)
 
 pub returns : goal.returns
 unfolding vertical_plane
