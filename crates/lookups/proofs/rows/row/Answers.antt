@@ -16,8 +16,7 @@ use Rattle.lookups.specs.Refusals.{row_no}
 use Rattle.lookups.specs.Answers.{place_answer, row_part, row_from}
 use Rattle.lookups.proofs.Numbers.{rowed}
 use borrow.Author.Rules.{rules}
-use Rattle.lookups.proofs.rows.row.Statement.{statement}
-use Rattle.lookups.proofs.rows.row.Tie as tie
+use Rattle.lookups.proofs.rows.row.Goals as goal
 
 -- the bytes and the place of a run that is there, or isn't
 bytes : (t : Bool) (r : Run) (f : List ℕ) → take (cond t r no_run).length (drop (cond t r no_run).offset f) ≡ cond t (take r.length (drop r.offset f)) []
@@ -32,25 +31,19 @@ module _ (r : SuperOpts) (s : List ℕ) (l k y : ℕ) where
   ends : (len : ℕ) → (place_answer r s len l k y).value.offset + (place_answer r s len l k y).value.length ≤ len
   ends len = run_ends (row_no r s len l k y) len (run_of (view_of r s) l k y) (λ e. row_ends (view_of r s) len l k y (rowed r s len l k y e))
 
-  row-bytes : (f : List ℕ) → take (place_answer r s (length f) l k y).value.length (drop (place_answer r s (length f) l k y).value.offset f) ≡ row_part r s f l k y
+  row_bytes : (f : List ℕ) → take (place_answer r s (length f) l k y).value.length (drop (place_answer r s (length f) l k y).value.offset f) ≡ row_part r s f l k y
   unfolding row_part
-  row-bytes f = bytes (eqb (row_no r s (length f) l k y) 0) (run_of (view_of r s) l k y) f
+  row_bytes f = bytes (eqb (row_no r s (length f) l k y) 0) (run_of (view_of r s) l k y) f
 
-  row_from : (len : ℕ) → (place_answer r s len l k y).value.offset ≡ row_from r s len l k y
-  row_from len = start (eqb (row_no r s len l k y) 0) (run_of (view_of r s) l k y)
+  row_from_lem : (len : ℕ) → (place_answer r s len l k y).value.offset ≡ row_from r s len l k y
+  row_from_lem len = start (eqb (row_no r s len l k y) 0) (run_of (view_of r s) l k y)
 
-row-place-requires : tie.Need-row-place-requires
-row-place-requires c κs = search rules
+pub hand_out-requires : goal.hand_out-requires
+hand_out-requires c = let s = c.args in rw c.row_place-at.ensures (ends s.opts s.layout.now s.level s.plane s.y (length s.frame.now))
 
-hand-out-requires : tie.Need-hand-out-requires
-hand-out-requires c κs = let s = c.before.before.before.args in rw c.row-place.ensures (ends s.opts s.layout.now s.level s.plane s.y (length s.frame.now))
-
-returns : tie.Need-returns
-returns c = let s = c.before.before.before.before.args in
-    let e = c.before.row-place.ensures in (
-      c.hand-out.ensures.0 ∙ ap (λ (a : Answer Run). take a.value.length (drop a.value.offset s.frame.now)) e ∙ row-bytes s.opts s.layout.now s.level s.plane s.y s.frame.now,
-      c.hand-out.ensures.1 ∙ ap (λ (a : Answer Run). part_at s.frame a.value.offset) e ∙ ap (part_at s.frame) (row_from s.opts s.layout.now s.level s.plane s.y (length s.frame.now)),
+pub returns : goal.returns
+returns c = let s = c.args in
+    let e = c.row_place-at.ensures in (
+      c.hand_out.ensures.0 ∙ ap (λ (a : Answer Run). take a.value.length (drop a.value.offset s.frame.now)) e ∙ row_bytes s.opts s.layout.now s.level s.plane s.y s.frame.now,
+      c.hand_out.ensures.1 ∙ ap (λ (a : Answer Run). part_at s.frame a.value.offset) e ∙ ap (part_at s.frame) (row_from_lem s.opts s.layout.now s.level s.plane s.y (length s.frame.now)),
     )
-
-pub row_spec : {M : Type 1} → statement M
-row_spec = tie.close (tie.spec row-place-requires hand-out-requires returns)

@@ -1,0 +1,52 @@
+-- `build_tested` meets its contract. Assumes nothing.
+use mathlib.Core.Path.{◌≡◌, refl, sym, ap, ◌∙◌}
+use Rattle.settings.specs.Numbers.{refuse, ◌then◌}
+use Rattle.settings.specs.Answers.{tested}
+use Rattle.layouts.specs.declared.layout.Layout.{Layout}
+use Rattle.layouts.specs.Layout.{width_at, written_end}
+use Rattle.layouts.specs.Refusals.{bad_pitch, lent_no}
+use Rattle.layouts.proofs.Layouts.{pitch_within, then_kept}
+use Rattle.stored.specs.Layout.{view_of}
+use Rattle.stored.specs.Refusals.{stored_no}
+use Rattle.stored.proofs.Exact.{passed, passed_view}
+use Rattle.lookups.specs.Refusals.{stored_build_no}
+use borrow.Author.Rules.{rules}
+use Rattle.lookups.proofs.lent.build_tested.Goals as goal
+
+pub returns-in_default : goal.returns-in_default
+unfolding stored_build_no
+returns-in_default c = let s = c.args in
+    let f = c.tested-t.ensures in
+    let n = stored_no s.opts s.layout.now in
+    let q = view_of s.opts s.layout.now in
+    let e = sym (ap tested c.in_default.is) ∙ f in
+    let second = refuse (bad_pitch s.src_pitch (width_at q 0)) 9 in
+    let first = then_kept c.in_default.field-0 n second e in
+    f ∙ first ∙ then_kept c.in_default.field-0 (n then second) (lent_no q s.src s.src_pitch s.frame s.spill s.scratch) (e ∙ first)
+
+pub view-q-requires : goal.view-q-requires
+view-q-requires c = 
+    let fine : stored_no c.args.opts c.args.layout.now ≡ 0 = sym c.tested-t.ensures ∙ ap tested c.in-Fine.is in
+    passed_view _ _ (passed _ _ (fine))
+
+pub returns-then-bad_pitch : goal.returns-then-bad_pitch
+unfolding stored_build_no
+returns-then-bad_pitch c = 
+    let fine : stored_no c.args.opts c.args.layout.now ≡ 0 = sym c.tested-t.ensures ∙ ap tested c.in-Fine.is in
+    let bad : bad_pitch c.args.src_pitch (width_at (view_of c.args.opts c.args.layout.now) 0) ≡ c.bad_pitch.result = sym (c.bad_pitch.ensures ∙ ap (bad_pitch c.args.src_pitch) (c.width.ensures ∙ ap (λ (q : Layout). width_at q 0) c.view-q.ensures)) in
+    rw (fine, bad ∙ c.if-bad_pitch.true) refl
+
+pub lent_tested-requires : goal.lent_tested-requires
+lent_tested-requires c = 
+    let fine : stored_no c.args.opts c.args.layout.now ≡ 0 = sym c.tested-t.ensures ∙ ap tested c.in-Fine.is in
+    let bad : bad_pitch c.args.src_pitch (width_at (view_of c.args.opts c.args.layout.now) 0) ≡ c.bad_pitch.result = sym (c.bad_pitch.ensures ∙ ap (bad_pitch c.args.src_pitch) (c.width.ensures ∙ ap (λ (q : Layout). width_at q 0) c.view-q.ensures)) in
+    let s = c.args in
+    (rw c.view-q.ensures (passed _ _ (fine)).layout, (pitch_within s.src_pitch (width_at (view_of s.opts s.layout.now) 0) (bad ∙ c.if-bad_pitch.false)).2, c.end-end.ensures ∙ ap written_end (sym c.view-q.ensures))
+
+pub returns : goal.returns
+unfolding stored_build_no
+returns c = 
+    let fine : stored_no c.args.opts c.args.layout.now ≡ 0 = sym c.tested-t.ensures ∙ ap tested c.in-Fine.is in
+    let bad : bad_pitch c.args.src_pitch (width_at (view_of c.args.opts c.args.layout.now) 0) ≡ c.bad_pitch.result = sym (c.bad_pitch.ensures ∙ ap (bad_pitch c.args.src_pitch) (c.width.ensures ∙ ap (λ (q : Layout). width_at q 0) c.view-q.ensures)) in
+    let s = c.args in
+    rw (fine, bad ∙ c.if-bad_pitch.false) (c.lent_tested.ensures ∙ ap (λ (q : Layout). lent_no q s.src s.src_pitch s.frame s.spill s.scratch) c.view-q.ensures)
