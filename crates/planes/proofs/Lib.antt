@@ -5,7 +5,6 @@
 --     Built      a build that isn't refused reads and stores in frame and spill alone
 --     Enough     the spill need covers every store of a build
 --     Calls      the contract of `build_plane`
---     Views      the view `Level0` and the plain parameters that stand for it
 -- The folders hold a proof for each function.
 pub mod Prepared
 pub mod Parts
@@ -13,4 +12,3 @@ pub mod Whole
 pub mod Built
 pub mod Enough
 pub mod Calls
-pub mod Views
