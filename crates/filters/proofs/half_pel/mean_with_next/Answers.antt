@@ -1,11 +1,8 @@
 -- `mean_with_next` meets its contract. Assumes nothing.
 use Rattle.filters.specs.Inner.{next_means}
-use mathlib.Core.Path.{refl, sym, ap}
+use mathlib.Core.Path.{refl}
 use native.Mathlib.Omega.{arith}
-use Prim.Native.Nat.{◌-◌}
-use lib.ListN.{length, length-drop}
-use lib.Seq.{length-take-le}
-use borrow.Author.Rules.{rules}
+use lib.ListN.{length}
 use Rattle.filters.proofs.Filling.{filled_none, filled_whole}
 use Rattle.filters.proofs.Places.{next_made}
 use Rattle.filters.proofs.half_pel.mean_with_next.Goals as goal

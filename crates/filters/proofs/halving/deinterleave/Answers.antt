@@ -1,6 +1,5 @@
 -- `deinterleave` meets its contract. Assumes nothing.
 use native.Mathlib.Omega.{arith}
-use borrow.Author.Rules.{rules}
 use Rattle.filters.proofs.Pairs.{apart_headed}
 use Rattle.filters.proofs.halving.deinterleave.Goals as goal
 

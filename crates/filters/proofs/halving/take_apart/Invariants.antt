@@ -1,10 +1,8 @@
 -- `take_apart` meets its contract. Assumes nothing.
 use Rattle.filters.specs.Inner.{Apart}
-use mathlib.Core.Path.{◌≡◌, refl}
+use mathlib.Core.Path.{◌≡◌}
 use Prim.Native.Nat.{◌-◌}
-use native.Mathlib.Omega.{arith}
-use lib.ListN.{length, length-set}
-use Rattle.filters.proofs.Pairs.{apart_none, apart_more}
+use lib.ListN.{length}
 use Rattle.filters.proofs.halving.take_apart.Given as goal
 
 abbrev pub invariant-loop-i : goal.invariant-loop-i

@@ -1,9 +1,8 @@
-use borrow.Author.Rules.{rules}
-use mathlib.Core.Path.{refl, sym, ◌∙◌}
-use Prim.Native.Nat.{ℕ, ◌-◌}
+use mathlib.Core.Path.{sym, ◌∙◌}
+use Prim.Native.Nat.{◌-◌}
 use native.Mathlib.Omega.{arith}
-use lib.ListN.{length, get_or}
-use Rattle.filters.proofs.Filling.{Filled, filled_none, filled_fewer, filled_whole, copied_part}
+use lib.ListN.{length}
+use Rattle.filters.proofs.Filling.{filled_fewer, filled_whole, copied_part}
 use Rattle.filters.proofs.Tables.{take_tab}
 use Rattle.filters.proofs.rows.copy_row.Goals as goal
 

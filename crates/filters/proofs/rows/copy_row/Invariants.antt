@@ -1,11 +1,7 @@
 -- `copy_row` meets its contract. Assumes nothing.
-use borrow.Author.Rules.{rules}
-use mathlib.Core.Path.{refl, sym, ◌∙◌}
 use Prim.Native.Nat.{ℕ, ◌-◌}
-use native.Mathlib.Omega.{arith}
-use lib.ListN.{length, get_or}
-use Rattle.filters.proofs.Filling.{Filled, filled_none, filled_fewer, filled_whole, copied_part}
-use Rattle.filters.proofs.Tables.{take_tab}
+use lib.ListN.{get_or}
+use Rattle.filters.proofs.Filling.{Filled}
 use Rattle.filters.proofs.rows.copy_row.Given as goal
 
 abbrev pub invariant-loop-at : goal.invariant-loop-at

@@ -1,10 +1,8 @@
-use borrow.Author.Rules.{rules}
-use mathlib.Core.Path.{refl}
-use Prim.Native.Nat.{ℕ, ◌-◌}
+use Prim.Native.Nat.{◌-◌}
 use native.Mathlib.Omega.{arith}
-use lib.ListN.{length, get_or}
-use Rattle.filters.proofs.Filling.{Filled, filled_none, filled_fewer, filled_whole, means_part}
-use Rattle.filters.specs.Row.{mean_of, means_of}
+use lib.ListN.{length}
+use Rattle.filters.proofs.Filling.{filled_fewer, filled_whole, means_part}
+use Rattle.filters.specs.Row.{means_of}
 use Rattle.filters.proofs.rows.mean_row.Goals as goal
 
 pub loop-at-preserved : goal.loop-at-preserved

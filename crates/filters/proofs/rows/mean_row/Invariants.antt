@@ -1,11 +1,8 @@
 -- `mean_row` meets its contract. Assumes nothing.
-use borrow.Author.Rules.{rules}
-use mathlib.Core.Path.{refl}
 use Prim.Native.Nat.{ℕ, ◌-◌}
-use native.Mathlib.Omega.{arith}
-use lib.ListN.{length, get_or}
-use Rattle.filters.proofs.Filling.{Filled, filled_none, filled_fewer, filled_whole, means_part}
-use Rattle.filters.specs.Row.{mean_of, means_of}
+use lib.ListN.{get_or}
+use Rattle.filters.proofs.Filling.{Filled}
+use Rattle.filters.specs.Row.{mean_of}
 use Rattle.filters.proofs.rows.mean_row.Given as goal
 
 abbrev pub invariant-loop-at : goal.invariant-loop-at

@@ -1,5 +1,4 @@
 -- `lent_tested` meets its contract. Assumes nothing.
-use borrow.Author.Rules.{rules}
 use Rattle.layouts.specs.Refusals.{lent_no}
 use Rattle.layouts.proofs.lent.lent_tested.Goals as goal
 

@@ -1,7 +1,6 @@
 -- `scratch_need` meets its contract. Assumes nothing.
 use native.Mathlib.Omega.{arith}
 use Rattle.layouts.proofs.Layouts.{allowed}
-use borrow.Author.Rules.{rules}
 use Rattle.layouts.proofs.lent.scratch_need.Goals as goal
 
 pub overflow_add-result : goal.overflow_add-result

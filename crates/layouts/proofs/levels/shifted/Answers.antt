@@ -1,5 +1,4 @@
 -- `shifted` meets its contract. Assumes nothing.
-use borrow.Author.Rules.{rules}
 use Rattle.layouts.proofs.Layouts.{shifted_out}
 use Rattle.layouts.proofs.levels.shifted.Goals as goal
 

@@ -5,14 +5,14 @@ use lib.ListN.{length, replicate}
 use borrow.Author.Rules.{rules}
 use Rattle.layouts.specs.Storing.{put}
 use Rattle.layouts.specs.Margins.{clear_from}
-use Rattle.layouts.proofs.Loops.{put_zeros, row_in, Walked, walked_none, walked_more, walked_whole, next_fits, next_less}
+use Rattle.layouts.proofs.Loops.{put_zeros, row_in, walked_none, walked_more, walked_whole}
 use Rattle.layouts.proofs.margins.clear_rows.Goals as goal
 
 pub loop-y-init : goal.loop-y-init
 loop-y-init c = walked_none
 
 pub loop-y-preserved : goal.loop-y-preserved
-loop-y-preserved c = 
+loop-y-preserved c =
     let inside : c.args.target.offset + c.loop-y.y * c.args.pitch + c.args.pitch ≤ length c.loop-y.frame = let s = c in
     let h = s.args.target.height in
     omega (arith, row_in c.loop-y.y h s.args.pitch c.loop-y-test.true, s.requires.1, c.loop-y.invariant.same) in

@@ -1,12 +1,8 @@
 -- `clear_rows` meets its contract. The loop has cleared the rows passed. Assumes nothing.
-use mathlib.Core.Path.{◌≡◌, ap, ◌∙◌}
-use Prim.Native.Nat.{ℕ, ◌+◌, ◌*◌, ◌-◌, ◌≤◌}
-use native.Mathlib.Omega.{arith}
-use lib.ListN.{length, replicate}
-use borrow.Author.Rules.{rules}
+use Prim.Native.Nat.{◌+◌, ◌*◌, ◌-◌}
+use lib.ListN.{replicate}
 use Rattle.layouts.specs.Storing.{put}
-use Rattle.layouts.specs.Margins.{clear_from}
-use Rattle.layouts.proofs.Loops.{put_zeros, row_in, Walked, walked_none, walked_more, walked_whole, next_fits, next_less}
+use Rattle.layouts.proofs.Loops.{Walked}
 use Rattle.layouts.proofs.margins.clear_rows.Given as goal
 
 abbrev pub invariant-loop-y : goal.invariant-loop-y

@@ -1,10 +1,5 @@
 -- `cubic_fits` meets its contract. Assumes nothing.
-use Prim.Native.Nat.{◌*◌, ◌-◌, ◌≤◌}
-use native.Mathlib.Omega.{arith}
 use borrow.Author.Tests.{le-leb, lt-leb}
-use borrow.Author.Rules.{rules}
-use Rattle.settings.specs.Limits.{most_side, most_pitch}
-use Rattle.settings.proofs.Heights.{prod_le}
 use Rattle.layouts.specs.Margins.{cubic_fits}
 use Rattle.layouts.proofs.margins.cubic_fits.Goals as goal
 

@@ -1,26 +1,21 @@
 -- `placed_at` meets its contract. Assumes nothing.
-use mathlib.Core.Path.{◌≡◌, ap, ◌∙◌}
+use mathlib.Core.Path.{◌≡◌, ap}
 use mathlib.Core.Bool.{◌||◌}
 use Prim.Native.Nat.{◌+◌, ◌*◌, ◌≤◌, ◌<◌}
 use native.Mathlib.Omega.{arith}
 use lib.Dec.{leb}
 use borrow.Author.Tests.{lt-leb}
-use Rattle.settings.specs.declared.refusal.Refusal.TheVariants.{NoRow}
 use Rattle.settings.specs.Limits.{most_side, most_pitch}
-use Rattle.settings.specs.Numbers.{refuse}
-use Rattle.settings.specs.Answers.{answer}
 use Rattle.settings.proofs.Heights.{prod_le}
-use Rattle.settings.proofs.Known.{given, refused}
 use Rattle.layouts.specs.declared.layout.Region.{Region}
 use Rattle.layouts.specs.Layout.{levels_of, height_at, stored_at}
 use Rattle.layouts.specs.Refusals.{no_row}
-use Rattle.layouts.specs.Answers.{run_of, no_run}
 use Rattle.layouts.proofs.Loops.{row_in}
 use Rattle.layouts.proofs.Layouts.{There, allowed, there, levels_le, offset_le, planes_le}
 use Rattle.layouts.proofs.rows.placed_at.Goals as goal
 
 pub overflow_mul-result : goal.overflow_mul-result
-overflow_mul-result c = 
+overflow_mul-result c =
     let absent : (leb c.stored.result c.args.plane || leb c.args.target.height c.args.y) ≡ no_row c.args.layout c.args.level c.args.plane c.args.y = let s = c in
     rw (c.stored.ensures, s.requires.2, lt-leb (levels_of s.args.layout) s.args.level s.requires.1) in
     let row : There c.args.layout c.args.level c.args.plane c.args.y = let s = c.args in there s.layout s.level s.plane s.y (rw (← absent) c.if-stored-plane.false) in
@@ -31,7 +26,7 @@ overflow_mul-result c =
     omega (arith, small)
 
 pub overflow_add-result : goal.overflow_add-result
-overflow_add-result c = 
+overflow_add-result c =
     let absent : (leb c.stored.result c.args.plane || leb c.args.target.height c.args.y) ≡ no_row c.args.layout c.args.level c.args.plane c.args.y = let s = c in
     rw (c.stored.ensures, s.requires.2, lt-leb (levels_of s.args.layout) s.args.level s.requires.1) in
     let row : There c.args.layout c.args.level c.args.plane c.args.y = let s = c.args in there s.layout s.level s.plane s.y (rw (← absent) c.if-stored-plane.false) in
@@ -42,7 +37,7 @@ overflow_add-result c =
     omega (arith, small)
 
 pub overflow_mul-result-2 : goal.overflow_mul-result-2
-overflow_mul-result-2 c = 
+overflow_mul-result-2 c =
     let absent : (leb c.stored.result c.args.plane || leb c.args.target.height c.args.y) ≡ no_row c.args.layout c.args.level c.args.plane c.args.y = let s = c in
     rw (c.stored.ensures, s.requires.2, lt-leb (levels_of s.args.layout) s.args.level s.requires.1) in
     let row : There c.args.layout c.args.level c.args.plane c.args.y = let s = c.args in there s.layout s.level s.plane s.y (rw (← absent) c.if-stored-plane.false) in
@@ -54,7 +49,7 @@ overflow_mul-result-2 c =
     omega (arith, bytes)
 
 pub overflow_add-result-2 : goal.overflow_add-result-2
-overflow_add-result-2 c = 
+overflow_add-result-2 c =
     let absent : (leb c.stored.result c.args.plane || leb c.args.target.height c.args.y) ≡ no_row c.args.layout c.args.level c.args.plane c.args.y = let s = c in
     rw (c.stored.ensures, s.requires.2, lt-leb (levels_of s.args.layout) s.args.level s.requires.1) in
     let row : There c.args.layout c.args.level c.args.plane c.args.y = let s = c.args in there s.layout s.level s.plane s.y (rw (← absent) c.if-stored-plane.false) in

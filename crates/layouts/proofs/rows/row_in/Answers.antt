@@ -1,16 +1,7 @@
 -- `row_in` meets its contract. Assumes nothing.
-use mathlib.Core.Path.{◌≡◌, ap}
-use mathlib.Core.Bool.{true}
+use mathlib.Core.Path.{ap}
 use native.Mathlib.Omega.{arith}
-use lib.Dec.{leb}
-use borrow.Author.Tests.{le-leb}
-use Rattle.settings.specs.declared.refusal.Refusal.TheVariants.{NoRow}
 use Rattle.settings.specs.declared.super_opts.Naturals.{Naturals}
-use Rattle.settings.specs.Numbers.{refuse}
-use Rattle.settings.proofs.Known.{refused}
-use Rattle.layouts.specs.Layout.{levels_of}
-use Rattle.layouts.specs.Refusals.{no_row}
-use Rattle.layouts.specs.Answers.{run_of, no_run}
 use Rattle.layouts.proofs.Layouts.{allowed, levels_le}
 use Rattle.layouts.proofs.rows.row_in.Goals as goal
 

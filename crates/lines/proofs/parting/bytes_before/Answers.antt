@@ -1,9 +1,6 @@
-use mathlib.Core.Path.{◌≡◌}
-use Prim.Native.Nat.{◌+◌, ◌≤◌, ◌-◌}
 use native.Mathlib.Omega.{arith}
 use borrow.Author.Tests.{eq-eqb, ne_eqb}
-use lib.ListN.{length, get_or, drop}
-use Rattle.lines.specs.Parting.{before}
+use lib.ListN.{get_or}
 use Rattle.lines.proofs.Parted.{before_next, before_end}
 use Rattle.lines.proofs.parting.bytes_before.Goals as goal
 

@@ -1,11 +1,8 @@
 -- `bytes_before` meets its contract. So far b was not met. Assumes nothing.
 use mathlib.Core.Path.{◌≡◌}
 use Prim.Native.Nat.{◌+◌, ◌≤◌, ◌-◌}
-use native.Mathlib.Omega.{arith}
-use borrow.Author.Tests.{eq-eqb, ne_eqb}
-use lib.ListN.{length, get_or, drop}
+use lib.ListN.{length, drop}
 use Rattle.lines.specs.Parting.{before}
-use Rattle.lines.proofs.Parted.{before_next, before_end}
 use Rattle.lines.proofs.parting.bytes_before.Given as goal
 
 abbrev pub invariant-loop-at : goal.invariant-loop-at

@@ -1,11 +1,8 @@
 -- `all_digits` meets its contract. So far all were digits. Assumes nothing.
-use mathlib.Core.Path.{◌≡◌, refl, sym, ◌∙◌}
+use mathlib.Core.Path.{◌≡◌}
 use Prim.Native.Nat.{◌≤◌, ◌-◌}
-use native.Mathlib.Omega.{arith}
-use borrow.Author.Tests.{not-true, not-false}
 use lib.ListN.{length, drop}
 use Rattle.lines.specs.Text.{all_digits}
-use Rattle.lines.proofs.Lines.{all_next, all_end}
 use Rattle.lines.proofs.text.all_digits.Given as goal
 
 abbrev pub invariant-loop-i : goal.invariant-loop-i

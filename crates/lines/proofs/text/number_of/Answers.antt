@@ -1,8 +1,6 @@
 use mathlib.Core.Path.{sym, ◌∙◌}
-use Prim.Native.Nat.{◌≤◌, ◌-◌}
 use native.Mathlib.Omega.{arith}
-use lib.ListN.{length}
-use Rattle.lines.proofs.Lines.{Counted, counted_none, counted_more, counts_fit, digit_at, number_end}
+use Rattle.lines.proofs.Lines.{counted_more, counts_fit, digit_at, number_end}
 use Rattle.lines.proofs.text.number_of.Goals as goal
 
 pub overflow_mul-v : goal.overflow_mul-v

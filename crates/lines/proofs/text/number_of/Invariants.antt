@@ -1,9 +1,7 @@
 -- `number_of` meets its contract. So far the digits make the number. Assumes nothing.
-use mathlib.Core.Path.{sym, ◌∙◌}
 use Prim.Native.Nat.{◌≤◌, ◌-◌}
-use native.Mathlib.Omega.{arith}
 use lib.ListN.{length}
-use Rattle.lines.proofs.Lines.{Counted, counted_none, counted_more, counts_fit, digit_at, number_end}
+use Rattle.lines.proofs.Lines.{Counted}
 use Rattle.lines.proofs.text.number_of.Given as goal
 
 abbrev pub invariant-loop-i : goal.invariant-loop-i

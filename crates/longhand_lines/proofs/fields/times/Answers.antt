@@ -1,10 +1,7 @@
-use mathlib.Core.Path.{◌≡◌}
-use Prim.Native.Nat.{◌+◌, ◌≤◌, ◌-◌}
 use native.Mathlib.Omega.{arith}
 use lib.Dec.{eqb}
-use lib.ListN.{length, get_or, drop}
+use lib.ListN.{get_or}
 use Rattle.lines.proofs.Lines.{is_bit_lem, bit_small}
-use Rattle.longhand_lines.specs.Fields.{times}
 use Rattle.longhand_lines.proofs.Parts.{times_next, times_end}
 use Rattle.longhand_lines.proofs.fields.times.Goals as goal
 
@@ -16,4 +13,3 @@ loop-i-preserved c = let l = c in
 
 pub returns : goal.returns
 returns c = let l = c in let a = l.args in omega (arith, l.loop-i.invariant.0, times_end a.b a.line.now l.loop-i.i (omega arith))
-

@@ -1,12 +1,8 @@
 -- `times` meets its contract. So far so many were b. Assumes nothing.
 use mathlib.Core.Path.{◌≡◌}
 use Prim.Native.Nat.{◌+◌, ◌≤◌, ◌-◌}
-use native.Mathlib.Omega.{arith}
-use lib.Dec.{eqb}
-use lib.ListN.{length, get_or, drop}
-use Rattle.lines.proofs.Lines.{is_bit_lem, bit_small}
+use lib.ListN.{length, drop}
 use Rattle.longhand_lines.specs.Fields.{times}
-use Rattle.longhand_lines.proofs.Parts.{times_next, times_end}
 use Rattle.longhand_lines.proofs.fields.times.Given as goal
 
 abbrev pub invariant-loop-i : goal.invariant-loop-i

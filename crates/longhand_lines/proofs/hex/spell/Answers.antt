@@ -1,9 +1,9 @@
 use mathlib.Core.Path.{◌≡◌, sym, ap, ◌∙◌}
-use Prim.Native.Nat.{ℕ, ◌+◌, ◌*◌, ◌-◌, ◌/◌}
+use Prim.Native.Nat.{ℕ, ◌+◌, ◌*◌, ◌/◌}
 use native.Mathlib.Omega.{arith}
 use lib.ListN.{length, take}
 use Rattle.lines.proofs.Lines.{digit_at}
-use Rattle.longhand_lines.proofs.Spelling.{Spelled, spelled_none, spelled_more, spelled_whole}
+use Rattle.longhand_lines.proofs.Spelling.{spelled_more, spelled_whole}
 use Rattle.longhand_lines.proofs.hex.spell.Goals as goal
 
 pub hex_of-requires : goal.hex_of-requires
@@ -22,4 +22,3 @@ returns c = let l = c in
     let line = l.args.line.now in
     let whole : l.loop-i.i ≡ length line / 2 = omega arith in
     ap (λ (n : ℕ). take n l.loop-i.out) (sym whole) ∙ spelled_whole l.loop-i.invariant (omega arith)
-

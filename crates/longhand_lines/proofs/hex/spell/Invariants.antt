@@ -1,10 +1,7 @@
 -- `spell` meets its contract. So far the first bytes stand there. Assumes nothing.
-use mathlib.Core.Path.{◌≡◌, sym, ap, ◌∙◌}
-use Prim.Native.Nat.{ℕ, ◌+◌, ◌*◌, ◌-◌, ◌/◌}
-use native.Mathlib.Omega.{arith}
-use lib.ListN.{length, take}
-use Rattle.lines.proofs.Lines.{digit_at}
-use Rattle.longhand_lines.proofs.Spelling.{Spelled, spelled_none, spelled_more, spelled_whole}
+use Prim.Native.Nat.{◌-◌, ◌/◌}
+use lib.ListN.{length}
+use Rattle.longhand_lines.proofs.Spelling.{Spelled}
 use Rattle.longhand_lines.proofs.hex.spell.Given as goal
 
 abbrev pub invariant-loop-i : goal.invariant-loop-i

@@ -1,10 +1,9 @@
 use mathlib.Core.Path.{sym, ap, ◌∙◌}
-use Prim.Native.Nat.{ℕ, ◌+◌, ◌*◌, ◌≤◌, ◌-◌}
+use Prim.Native.Nat.{ℕ, ◌+◌, ◌*◌}
 use native.Mathlib.Numerals.{add-one}
 use native.Mathlib.Omega.{arith}
-use lib.ListN.{length, get_or, take}
-use lib.Seq.{take-suc, take_all}
-use Rattle.lines.specs.Text.{Appended}
+use lib.ListN.{get_or, take}
+use lib.Seq.{take-suc}
 use Rattle.lines.proofs.Lines.{nothing, ◌after◌, said, wider}
 use Rattle.longhand_lines.specs.Hex.{hex_text}
 use Rattle.longhand_lines.proofs.Spelling.{bytes_none, bytes_more}

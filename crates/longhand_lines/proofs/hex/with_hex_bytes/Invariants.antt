@@ -1,14 +1,8 @@
 -- `with_hex_bytes` meets its contract. So far the bytes passed stand there. Assumes nothing.
-use mathlib.Core.Path.{sym, ap, ◌∙◌}
-use Prim.Native.Nat.{ℕ, ◌+◌, ◌*◌, ◌≤◌, ◌-◌}
-use native.Mathlib.Numerals.{add-one}
-use native.Mathlib.Omega.{arith}
-use lib.ListN.{length, get_or, take}
-use lib.Seq.{take-suc, take_all}
+use Prim.Native.Nat.{◌*◌, ◌≤◌, ◌-◌}
+use lib.ListN.{length, take}
 use Rattle.lines.specs.Text.{Appended}
-use Rattle.lines.proofs.Lines.{nothing, ◌after◌, said, wider}
 use Rattle.longhand_lines.specs.Hex.{hex_text}
-use Rattle.longhand_lines.proofs.Spelling.{bytes_none, bytes_more}
 use Rattle.longhand_lines.proofs.hex.with_hex_bytes.Given as goal
 
 abbrev pub invariant-loop-i : goal.invariant-loop-i

@@ -1,6 +1,5 @@
 -- `asked_settings` meets its contract. Assumes nothing.
 use Rattle.longhand_lines.specs.Longhand.{asked_settings}
-use borrow.Author.Rules.{rules}
 use Rattle.longhand_lines.proofs.longhand.asked_settings.Goals as goal
 
 pub returns : goal.returns

@@ -1,6 +1,5 @@
 -- `is_asked` meets its contract. Assumes nothing.
 use Rattle.longhand_lines.specs.Longhand.{is_asked}
-use borrow.Author.Rules.{rules}
 use Rattle.longhand_lines.proofs.longhand.is_asked.Goals as goal
 
 pub returns : goal.returns

@@ -6,7 +6,6 @@ use lib.ListN.{length}
 use Rattle.longhand_lines.specs.Longhand.{is_record, is_asked, checked_text, answer_text, text_most}
 use Rattle.lines.proofs.Lines.{said, wider}
 use Rattle.longhand_lines.proofs.Lengths.{record_fits, asked_fits}
-use borrow.Author.Rules.{rules}
 use Rattle.longhand_lines.proofs.longhand.with_answer.Goals as goal
 
 pub returns-then-is_record : goal.returns-then-is_record

@@ -6,7 +6,6 @@ use Rattle.settings.specs.Answers.{checked}
 use Rattle.longhand_lines.specs.Longhand.{checked_text}
 use Rattle.lines.proofs.Lines.{said, wider}
 use Rattle.longhand_lines.proofs.Answered.{checked_accepted, checked_refused}
-use borrow.Author.Rules.{rules}
 use Rattle.longhand_lines.proofs.longhand.with_checked.Goals as goal
 
 pub returns-in-Accepted : goal.returns-in-Accepted

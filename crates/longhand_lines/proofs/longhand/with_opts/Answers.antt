@@ -1,5 +1,4 @@
 -- `with_opts` meets its contract. Assumes nothing.
-use native.Mathlib.Omega.{arith}
 use Rattle.settings.proofs.Fields.{FieldsFit}
 use Rattle.longhand_lines.specs.Longhand.{opts_text}
 use Rattle.lines.proofs.Lines.{◌after◌, int_said}
@@ -8,7 +7,7 @@ use Rattle.longhand_lines.proofs.longhand.with_opts.Goals as goal
 
 pub returns : goal.returns
 unfolding opts_text
-returns c = 
+returns c =
     let fields : FieldsFit c.args.opts = search rules in
     let down = c in
     let flags = down in
@@ -25,4 +24,3 @@ returns c =
     after int_said r.pel f.pel pel.with_int-3.ensures
     after int_said r.height f.height height.with_int-2.ensures
     after int_said r.width f.width width.with_int.ensures
-

@@ -6,7 +6,6 @@ use Rattle.longhands.specs.Longhand.{read_as}
 use Rattle.longhand_lines.specs.Longhand.{read_most}
 use Rattle.lines.proofs.Lines.{◌after◌, said, wider}
 use Rattle.longhand_lines.proofs.Answered.{read_alike, read_record, read_unknown, read_refused, refused_few}
-use borrow.Author.Rules.{rules}
 use Rattle.longhand_lines.proofs.longhand.with_read.Goals as goal
 
 pub returns-in-Record : goal.returns-in-Record

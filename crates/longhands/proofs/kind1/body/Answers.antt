@@ -8,7 +8,7 @@ use Rattle.longhands.proofs.kind1.body.Goals as goal
 
 pub returns : goal.returns
 unfolding kind1_body little_endian
-returns c = 
+returns c =
     let fields : FieldsFit c.args.opts = search rules in
     let up = c in
     let up-bits = up in

@@ -6,7 +6,6 @@ use Prim.Native.Nat.{ℕ}
 use lib.Dec.{ltb}
 use lib.ListN.{get_or}
 use native.Mathlib.Omega.{arith}
-use borrow.Author.Rules.{rules}
 use Rattle.settings.specs.declared.refusal.Refusal.TheVariants.{Longhand as OfLonghand}
 use Rattle.settings.specs.declared.refusal.BadLonghand.TheVariants.{Contents}
 use Rattle.settings.specs.Numbers.{refuse}
@@ -24,14 +23,14 @@ unfolding kind1_record
 counted b = but_levels_accepted (kind1_record b) refl
 
 pub returns-then-good : goal.returns-then-good
-returns-then-good c = 
+returns-then-good c =
     let good : (c.accepted_but_levels.result && ltb (get_or c.args.body.now 6 0) 8) ≡ kind1_good c.args.body.now = let a = c in
     rw (number_of_1 a.args.body.now 6 (omega (arith, a.requires)), c.accepted_but_levels.ensures, c.spelled-opts.ensures, counted a.args.body.now) in
     let l = c.args.body.now in
     ap (answer 0) c.spelled-opts.ensures ∙ given (refuse (not (kind1_good l)) 18) (kind1_record l) no_record (rw (← good, c.if-good.true))
 
 pub returns : goal.returns
-returns c = 
+returns c =
     let good : (c.accepted_but_levels.result && ltb (get_or c.args.body.now 6 0) 8) ≡ kind1_good c.args.body.now = let a = c in
     rw (number_of_1 a.args.body.now 6 (omega (arith, a.requires)), c.accepted_but_levels.ensures, c.spelled-opts.ensures, counted a.args.body.now) in
     let l = c.args.body.now in

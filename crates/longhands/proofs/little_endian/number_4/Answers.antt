@@ -1,6 +1,5 @@
 -- `number_4` meets its contract. Assumes nothing.
 use native.Mathlib.Omega.{arith}
-use borrow.Author.Rules.{rules}
 use Rattle.longhands.proofs.Bytes.{number_of_4}
 use Rattle.longhands.proofs.little_endian.number_4.Goals as goal
 

@@ -1,9 +1,7 @@
 -- `put` meets its contract. Assumes nothing.
-use mathlib.Core.Path.{refl}
 use Prim.Native.Nat.{◌-◌}
-use native.Mathlib.Omega.{arith}
 use lib.ListN.{length}
-use Rattle.settings.proofs.Pasting.{Pasted, pasted_none, pasted_more, pasted_whole}
+use Rattle.settings.proofs.Pasting.{Pasted}
 use Rattle.longhands.proofs.little_endian.put.Given as goal
 
 abbrev pub invariant-loop-i : goal.invariant-loop-i

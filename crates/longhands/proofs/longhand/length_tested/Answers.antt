@@ -1,7 +1,6 @@
 -- `length_tested` meets its contract. Assumes nothing.
 use lib.ListN.{length}
 use borrow.Author.Tests.{lt-ltb, le-ltb}
-use borrow.Author.Rules.{rules}
 use Rattle.longhands.specs.Longhand.{length_no}
 use Rattle.longhands.proofs.longhand.length_tested.Goals as goal
 

@@ -1,5 +1,4 @@
 -- `put_framed` meets its contract. Assumes nothing.
-use borrow.Author.Rules.{rules}
 use Rattle.longhands.proofs.Longhands.{frame_put}
 use Rattle.longhands.proofs.longhand.put_framed.Goals as goal
 

@@ -1,7 +1,6 @@
 -- `read_kind` meets its contract. Assumes nothing.
-use mathlib.Core.Path.{sym, ◌∙◌}
+use mathlib.Core.Path.{◌∙◌}
 use native.Mathlib.Omega.{arith}
-use borrow.Author.Rules.{rules}
 use Rattle.longhands.proofs.Longhands.{whole, kind_unknown}
 use Rattle.longhands.proofs.longhand.read_kind.Goals as goal
 

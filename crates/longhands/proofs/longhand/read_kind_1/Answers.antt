@@ -3,8 +3,6 @@ use mathlib.Core.Path.{◌≡◌, sym, ap, ◌∙◌}
 use Prim.Native.Nat.{ℕ, ◌+◌, ◌-◌}
 use native.Mathlib.Omega.{arith}
 use lib.ListN.{take, drop}
-use borrow.Author.Rules.{rules}
-use Rattle.settings.specs.Answers.{checked}
 use Rattle.longhands.specs.Longhand.{length_of, body_of}
 use Rattle.longhands.proofs.Longhands.{whole, length_other, body_read, body_refused}
 use Rattle.longhands.proofs.longhand.read_kind_1.Goals as goal
@@ -21,7 +19,7 @@ pub slice_bounds-read_body-end : goal.slice_bounds-read_body-end
 slice_bounds-read_body-end c = let n = c in let a = n in omega (arith, n.number_4-length.ensures, (whole a.args.bytes.now a.requires.0).own)
 
 pub returns-in-Accepted : goal.returns-in-Accepted
-returns-in-Accepted c = 
+returns-in-Accepted c =
     let body : take (4 + c.number_4-length.result - 6) (drop 6 c.args.bytes.now) ≡ body_of c.args.bytes.now = let n = c in
     let l = n.args.bytes.now in
     let count : 4 + n.number_4-length.result - 6 ≡ length_of l - 2 = omega (arith, n.number_4-length.ensures) in
@@ -34,7 +32,7 @@ returns-in-Accepted c =
     (body_read a.args.bytes.now a.requires.0 a.requires.1 (sym n.number_4-length.ensures ∙ here.if-length-ne-LENGTH.false) (body) (c.in-Accepted.ensures))
 
 pub returns-in-Refused : goal.returns-in-Refused
-returns-in-Refused c = 
+returns-in-Refused c =
     let body : take (4 + c.number_4-length.result - 6) (drop 6 c.args.bytes.now) ≡ body_of c.args.bytes.now = let n = c in
     let l = n.args.bytes.now in
     let count : 4 + n.number_4-length.result - 6 ≡ length_of l - 2 = omega (arith, n.number_4-length.ensures) in

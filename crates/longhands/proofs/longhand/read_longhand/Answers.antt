@@ -1,7 +1,4 @@
 -- `read_longhand` meets its contract. Assumes nothing.
-use mathlib.Core.Path.{sym, ap, ◌∙◌}
-use borrow.Author.Rules.{rules}
-use Rattle.settings.specs.Answers.{tested}
 use Rattle.longhands.proofs.Longhands.{length_refused}
 use Rattle.longhands.proofs.longhand.read_longhand.Goals as goal
 

@@ -1,11 +1,11 @@
 use mathlib.Core.Path.{◌≡◌, refl, sym, ap, ◌∙◌}
-use Prim.Native.Nat.{ℕ, ◌+◌, ◌*◌, ◌-◌, ◌≤◌}
+use Prim.Native.Nat.{ℕ, ◌+◌, ◌*◌, ◌-◌}
 use native.Mathlib.Omega.{arith}
 use Rattle.settings.specs.Numbers.{total as sum}
 use Rattle.settings.specs.Sizes.{reduce, reduced}
 use Rattle.settings.specs.Check.{full_height}
 use Rattle.settings.proofs.Levels.{reduced_next}
-use Rattle.settings.proofs.Heights.{heights, heights_next, square_le, heights_small, prod_le, reduced_le}
+use Rattle.settings.proofs.Heights.{heights, heights_next, square_le, heights_small, reduced_le}
 use Rattle.settings.proofs.super_opts.full_height.Goals as goal
 
 pub loop-init : goal.loop-init

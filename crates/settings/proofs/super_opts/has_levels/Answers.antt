@@ -5,7 +5,6 @@ use native.Mathlib.Omega.{arith}
 use native.Mathlib.Numerals.{add-one}
 use lib.Dec.{eqb, ltb}
 use borrow.Author.Tests.{ne_eqb}
-use borrow.Author.Rules.{rules}
 use Rattle.settings.specs.Sizes.{auto_levels}
 use Rattle.settings.proofs.Levels.{levels_small, levels_none, levels_some}
 use Rattle.settings.proofs.super_opts.has_levels.Goals as goal

@@ -9,13 +9,13 @@ use Rattle.settings.proofs.super_opts.packed_height.Goals as goal
 
 pub upward-requires : goal.upward-requires
 unfolding reduced
-upward-requires c = 
+upward-requires c =
     let row : c.at_least_one-width.result ≡ max 1 (reduce c.args.base_w) = c.at_least_one-width.ensures ∙ ap (max 1) c.reduce_dim.ensures in
     let a = c in omega (arith, row, area_small a.args.base_w a.args.base_h a.requires.0 a.requires.1)
 
 pub returns : goal.returns
 unfolding packed_height reduced
-returns c = 
+returns c =
     let row : c.at_least_one-width.result ≡ max 1 (reduce c.args.base_w) = c.at_least_one-width.ensures ∙ ap (max 1) c.reduce_dim.ensures in
     let a = c in (
       c.raised_to_even.ensures ∙ ap raised_to_even (c.upward.ensures ∙ ap (upward (a.args.base_w * a.args.base_h / 2)) (row)),

@@ -1,9 +1,7 @@
 -- `reduce_dim` meets its contract. The loop has reduced as often as it has counted. Assumes nothing.
-use mathlib.Core.Path.{◌≡◌, refl, sym, ap, ◌∙◌}
+use mathlib.Core.Path.{◌≡◌}
 use Prim.Native.Nat.{◌≤◌, ◌-◌}
-use native.Mathlib.Omega.{arith}
-use Rattle.settings.specs.Sizes.{reduce, reduced}
-use Rattle.settings.proofs.Levels.{reduced_next}
+use Rattle.settings.specs.Sizes.{reduced}
 use Rattle.settings.proofs.super_opts.reduce_dim.Given as goal
 
 abbrev pub invariant-loop : goal.invariant-loop

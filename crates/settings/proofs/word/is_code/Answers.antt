@@ -1,8 +1,5 @@
 -- `is_code` meets its contract. Assumes nothing.
-use mathlib.Core.Path.{sym, ap, ◌∙◌}
-use borrow.Author.Rules.{rules}
 use Rattle.settings.specs.Reading.{is_code}
-use Rattle.settings.specs.Answers.{packed}
 use Rattle.settings.proofs.Words.{packed_word_lem, packed_not}
 use Rattle.settings.proofs.word.is_code.Goals as goal
 

@@ -8,7 +8,7 @@ use Rattle.settings.proofs.word.tested.Goals as goal
 
 pub returns : goal.returns
 unfolding read_no
-returns c = 
+returns c =
     let fields : FieldsFit c.args.r = search rules in
     let t2 = c in
     let t1 = t2 in

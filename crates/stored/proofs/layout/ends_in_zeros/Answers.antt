@@ -1,22 +1,20 @@
 use mathlib.Core.Path.{◌≡◌, sym, ap, ◌∙◌}
 use mathlib.Core.Bool.{true, false}
 use mathlib.Core.Logic.{⊎_elim}
-use Prim.Native.Nat.{ℕ, ◌-◌, ◌≤◌, ◌<◌}
-use native.Mathlib.Nat.{eq-or-lt_of_le}
+use Prim.Native.Nat.{ℕ, ◌≤◌, ◌<◌}
 use native.Mathlib.Omega.{arith}
-use borrow.Author.Tests.{not-true, not-false}
+use borrow.Author.Tests.{not-true}
 use Rattle.settings.specs.Limits.{most_levels}
 use Rattle.filters.proofs.Tests.{below_or}
 use Rattle.layouts.specs.declared.layout.Region.{Region}
 use Rattle.layouts.specs.Layout.{no_region}
-use Rattle.layouts.proofs.Loops.{next_less}
 use Rattle.layouts.proofs.Layouts.{region_none}
 use Rattle.stored.specs.Inner.{region_in, same_region, same_at}
 use Rattle.stored.proofs.Exact.{every_yes, every_at, every_no}
 use Rattle.stored.proofs.layout.ends_in_zeros.Goals as goal
 
 pub returns-then-not-same_region : goal.returns-then-not-same_region
-returns-then-not-same_region c = 
+returns-then-not-same_region c =
     let found : c.same_region.result ≡ same_region (region_in c.args.numbers.now c.loop-level.level) no_region = c.same_region.ensures ∙ ap (λ (x : Region). same_region x no_region) c.region_in.ensures in
     let turn = c in
     let l = turn.loop-level in

@@ -1,23 +1,18 @@
 use mathlib.Core.Path.{◌≡◌, sym, ap, ◌∙◌}
-use mathlib.Core.Bool.{true}
-use mathlib.Core.Logic.{⊎_elim}
-use Prim.Native.Nat.{ℕ, ◌-◌, ◌≤◌, ◌<◌}
-use native.Mathlib.Nat.{eq-or-lt_of_le}
+use Prim.Native.Nat.{◌≤◌, ◌<◌}
 use native.Mathlib.Omega.{arith}
-use borrow.Author.Tests.{not-true, not-false}
+use borrow.Author.Tests.{not-true}
 use Rattle.settings.specs.declared.super_opts.Naturals.{Naturals}
 use Rattle.settings.specs.Limits.{most_levels}
 use Rattle.layouts.specs.declared.layout.Region.{Region}
 use Rattle.layouts.specs.Layout.{levels_of}
-use Rattle.layouts.specs.Descent.{reached}
-use Rattle.layouts.proofs.Loops.{next_less}
 use Rattle.layouts.proofs.Layouts.{allowed, levels_le, region_there}
 use Rattle.stored.specs.Inner.{region_in, same_region, same_at}
 use Rattle.stored.proofs.Exact.{every_yes, every_no}
 use Rattle.stored.proofs.layout.has_regions.Goals as goal
 
 pub region_in-requires : goal.region_in-requires
-region_in-requires c = 
+region_in-requires c =
     let few : (c.naturals-n.result.levels ≡ levels_of c.args.layout) × (levels_of c.args.layout ≤ most_levels) = let s = c in (ap (λ (x : Naturals). x.levels) c.naturals-n.ensures, levels_le s.args.layout (allowed s.args.layout s.requires.0)) in
     let inside : (c.loop-level.level < levels_of c.args.layout) × (c.loop-level.level < most_levels) = let n = few in
     let lt : c.loop-level.level < levels_of c.args.layout = omega (arith, n.0, c.loop-level-test.true) in
@@ -25,7 +20,7 @@ region_in-requires c =
     ((inside).1, c.requires.1)
 
 pub returns-then-not-same_region : goal.returns-then-not-same_region
-returns-then-not-same_region c = 
+returns-then-not-same_region c =
     let few : (c.naturals-n.result.levels ≡ levels_of c.args.layout) × (levels_of c.args.layout ≤ most_levels) = let s = c in (ap (λ (x : Naturals). x.levels) c.naturals-n.ensures, levels_le s.args.layout (allowed s.args.layout s.requires.0)) in
     let inside : (c.loop-level.level < levels_of c.args.layout) × (c.loop-level.level < most_levels) = let n = few in
     let lt : c.loop-level.level < levels_of c.args.layout = omega (arith, n.0, c.loop-level-test.true) in
@@ -40,7 +35,7 @@ returns-then-not-same_region c =
     sym (every_no (same_at a.layout a.numbers.now) most_levels turn.loop-level.level (inside).1 (sym (found) ∙ not-true c.same_region.result c.if-not-same_region.true-raw))
 
 pub next-at-requires : goal.next-at-requires
-next-at-requires c = 
+next-at-requires c =
     let few : (c.naturals-n.result.levels ≡ levels_of c.args.layout) × (levels_of c.args.layout ≤ most_levels) = let s = c in (ap (λ (x : Naturals). x.levels) c.naturals-n.ensures, levels_le s.args.layout (allowed s.args.layout s.requires.0)) in
     let inside : (c.loop-level.level < levels_of c.args.layout) × (c.loop-level.level < most_levels) = let n = few in
     let lt : c.loop-level.level < levels_of c.args.layout = omega (arith, n.0, c.loop-level-test.true) in
@@ -49,7 +44,7 @@ next-at-requires c =
     (turn.requires.0, (inside).1, turn.loop-level.invariant.0)
 
 pub ends_in_zeros-requires : goal.ends_in_zeros-requires
-ends_in_zeros-requires c = 
+ends_in_zeros-requires c =
     let few : (c.naturals-n.result.levels ≡ levels_of c.args.layout) × (levels_of c.args.layout ≤ most_levels) = let s = c in (ap (λ (x : Naturals). x.levels) c.naturals-n.ensures, levels_le s.args.layout (allowed s.args.layout s.requires.0)) in
     let n = c in
     let s = n in

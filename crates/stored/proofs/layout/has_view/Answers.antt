@@ -3,7 +3,6 @@ use lib.ListN.{length}
 use borrow.Author.Tests.{eq-eqb, ne_eqb}
 use Rattle.stored.specs.Layout.{most_numbers}
 use Rattle.stored.specs.Inner.{has_view}
-use borrow.Author.Rules.{rules}
 use Rattle.stored.proofs.layout.has_view.Goals as goal
 
 pub returns-then-numbers-ne-LAYOUT : goal.returns-then-numbers-ne-LAYOUT

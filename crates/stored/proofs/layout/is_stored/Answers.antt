@@ -1,7 +1,6 @@
 -- `is_stored` meets its contract. Assumes nothing.
 use mathlib.Core.Path.{◌≡◌, refl, sym, ap, ◌∙◌}
 use mathlib.Core.Bool.{true}
-use native.Mathlib.Omega.{arith}
 use lib.ListN.{length}
 use borrow.Author.Tests.{eq-eqb, ne_eqb, not-true, not-false}
 use Rattle.settings.specs.declared.super_opts.Naturals.{Naturals}
@@ -10,7 +9,6 @@ use Rattle.layouts.specs.Refusals.{least_pitch, bad_pitch, layout_no}
 use Rattle.stored.specs.Layout.{most_numbers, view_of, is_stored}
 use Rattle.stored.specs.Inner.{has_view, keeps}
 use Rattle.stored.proofs.Exact.{shaped, layout_by_pitch, viewless, by_levels}
-use borrow.Author.Rules.{rules}
 use Rattle.stored.proofs.layout.is_stored.Goals as goal
 
 pub returns-then-not-has_view : goal.returns-then-not-has_view
@@ -19,7 +17,7 @@ returns-then-not-has_view c = let s = c.args in
 
 pub returns-then-bad_pitch : goal.returns-then-bad_pitch
 unfolding is_stored
-returns-then-bad_pitch c = 
+returns-then-bad_pitch c =
     let shape : has_view c.args.numbers.now ≡ true = sym c.has_view.ensures ∙ not-false c.has_view.result c.if-not-has_view.false-raw in
     let pitch : bad_pitch (view_of c.args.opts c.args.numbers.now).pitch (least_pitch (view_of c.args.opts c.args.numbers.now)) ≡ c.bad_pitch.result = ap (λ (q : Layout). bad_pitch q.pitch (least_pitch q)) (sym c.view-layout.ensures) ∙ ap (bad_pitch c.view-layout.result.pitch) (sym c.least_pitch.ensures) ∙ sym c.bad_pitch.ensures in
     let s = c in
@@ -27,7 +25,7 @@ returns-then-bad_pitch c =
 
 pub returns-then-numbers-n : goal.returns-then-numbers-n
 unfolding is_stored keeps
-returns-then-numbers-n c = 
+returns-then-numbers-n c =
     let shape : has_view c.args.numbers.now ≡ true = sym c.has_view.ensures ∙ not-false c.has_view.result c.if-not-has_view.false-raw in
     let long : length c.args.numbers.now ≡ most_numbers = (shaped c.args.numbers.now (shape)).long in
     let pitch : bad_pitch (view_of c.args.opts c.args.numbers.now).pitch (least_pitch (view_of c.args.opts c.args.numbers.now)) ≡ c.bad_pitch.result = ap (λ (q : Layout). bad_pitch q.pitch (least_pitch q)) (sym c.view-layout.ensures) ∙ ap (bad_pitch c.view-layout.result.pitch) (sym c.least_pitch.ensures) ∙ sym c.bad_pitch.ensures in
@@ -37,7 +35,7 @@ returns-then-numbers-n c =
     rw (none, sym (by_levels s.opts s.numbers.now (long)), ne_eqb _ _ (λ e. c.if-numbers-n.true (e ∙ sym n))) refl
 
 pub has_regions-requires : goal.has_regions-requires
-has_regions-requires c = 
+has_regions-requires c =
     let shape : has_view c.args.numbers.now ≡ true = sym c.has_view.ensures ∙ not-false c.has_view.result c.if-not-has_view.false-raw in
     let long : length c.args.numbers.now ≡ most_numbers = (shaped c.args.numbers.now (shape)).long in
     let pitch : bad_pitch (view_of c.args.opts c.args.numbers.now).pitch (least_pitch (view_of c.args.opts c.args.numbers.now)) ≡ c.bad_pitch.result = ap (λ (q : Layout). bad_pitch q.pitch (least_pitch q)) (sym c.view-layout.ensures) ∙ ap (bad_pitch c.view-layout.result.pitch) (sym c.least_pitch.ensures) ∙ sym c.bad_pitch.ensures in
@@ -46,7 +44,7 @@ has_regions-requires c =
 
 pub returns : goal.returns
 unfolding is_stored keeps
-returns c = 
+returns c =
     let shape : has_view c.args.numbers.now ≡ true = sym c.has_view.ensures ∙ not-false c.has_view.result c.if-not-has_view.false-raw in
     let long : length c.args.numbers.now ≡ most_numbers = (shaped c.args.numbers.now (shape)).long in
     let pitch : bad_pitch (view_of c.args.opts c.args.numbers.now).pitch (least_pitch (view_of c.args.opts c.args.numbers.now)) ≡ c.bad_pitch.result = ap (λ (q : Layout). bad_pitch q.pitch (least_pitch q)) (sym c.view-layout.ensures) ∙ ap (bad_pitch c.view-layout.result.pitch) (sym c.least_pitch.ensures) ∙ sym c.bad_pitch.ensures in

@@ -3,7 +3,6 @@ use mathlib.Core.Path.{refl, sym, ◌∙◌}
 use borrow.Author.Tests.{not-true, not-false}
 use Rattle.stored.specs.Refusals.{stored_no}
 use Rattle.stored.proofs.Exact.{stored_passed, passes}
-use borrow.Author.Rules.{rules}
 use Rattle.stored.proofs.layout.tested.Goals as goal
 
 pub returns-then-not-accepted : goal.returns-then-not-accepted

@@ -1,10 +1,7 @@
 -- `zero` meets its contract. Assumes nothing.
-use mathlib.Core.Path.{refl, sym, ◌∙◌}
 use Prim.Native.Nat.{ℕ, ◌-◌}
-use native.Mathlib.Omega.{arith}
 use lib.ListN.{length}
-use Rattle.filters.proofs.Filling.{Filled, filled_none, filled_more, filled_whole}
-use Rattle.filters.proofs.Tables.{zeros_tab}
+use Rattle.filters.proofs.Filling.{Filled}
 use Rattle.stored.proofs.layout.zero.Given as goal
 
 abbrev pub invariant-loop-i : goal.invariant-loop-i

@@ -2,11 +2,9 @@
 -- `HalfPel::horizontal` meets its contract. Assumes nothing.
 -- `HalfPel::horizontal` meets its contract. Assumes nothing.
 use mathlib.Core.Path.{◌∙◌}
-use Prim.Native.Nat.{◌-◌}
 use native.Mathlib.Omega.{arith}
 use lib.ListN.{length}
-use borrow.Author.Rules.{rules}
-use Rattle.filters.proofs.Places.{Parts, parts_reach, short_row, long_row}
+use Rattle.filters.proofs.Places.{Parts, short_row, long_row}
 use Rattle.filters.proofs.half_pel.HalfPel.horizontal.Goals as goal
 
 pub returns-then-n-lead : goal.returns-then-n-lead

@@ -2,7 +2,6 @@
 use mathlib.Core.Path.{◌∙◌}
 use native.Mathlib.Omega.{arith}
 use lib.ListN.{length}
-use borrow.Author.Rules.{rules}
 use Rattle.filters.specs.Refine.{tail_of}
 use Rattle.filters.proofs.Tests.{near_end}
 use Rattle.filters.proofs.Places.{vertical_copy, vertical_mean, vertical_kernel}

@@ -1,7 +1,5 @@
 -- `ReduceFilter::reduce_row` meets its contract. Assumes nothing.
-use mathlib.Core.Path.{◌∙◌}
-use lib.ListN.{length, length-set}
-use borrow.Author.Rules.{rules}
+use lib.ListN.{length}
 use Rattle.filters.proofs.Pairs.{reduced}
 use Rattle.filters.proofs.halving.ReduceFilter.reduce_row.Goals as goal
 

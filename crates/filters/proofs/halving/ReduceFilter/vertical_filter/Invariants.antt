@@ -1,10 +1,7 @@
 -- `ReduceFilter::vertical_filter` meets its contract. Assumes nothing.
-use borrow.Author.Rules.{rules}
-use mathlib.Core.Path.{refl}
 use Prim.Native.Nat.{◌-◌}
-use native.Mathlib.Omega.{arith}
-use Rattle.filters.proofs.Filling.{Filled, filled_none, filled_more, filled_whole}
-use Rattle.filters.specs.Row.{six_at, sixes}
+use Rattle.filters.proofs.Filling.{Filled}
+use Rattle.filters.specs.Row.{six_at}
 use Rattle.filters.specs.Halve.{weigh}
 use Rattle.filters.proofs.halving.ReduceFilter.vertical_filter.Given as goal
 

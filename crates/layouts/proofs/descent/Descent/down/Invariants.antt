@@ -1,9 +1,7 @@
 -- `down` meets its contract. The loop carries what is reached at its level. Assumes nothing.
-use mathlib.Core.Path.{◌≡◌, ap, ◌∙◌}
+use mathlib.Core.Path.{◌≡◌}
 use Prim.Native.Nat.{◌-◌, ◌≤◌}
-use native.Mathlib.Omega.{arith}
 use Rattle.layouts.specs.Descent.{reached}
-use Rattle.layouts.proofs.Loops.{next_less}
 use Rattle.layouts.proofs.descent.Descent.down.Given as goal
 
 abbrev pub invariant-loop-level : goal.invariant-loop-level

@@ -9,7 +9,7 @@ use Rattle.layouts.specs.declared.layout.Layout.{Layout}
 use Rattle.layouts.specs.declared.descent.Descent.{Descent}
 use Rattle.layouts.specs.Layout.{height_at, stored_at, bytes_at, offset_at}
 use Rattle.layouts.specs.Descent.{reached}
-use Rattle.layouts.proofs.Layouts.{allowed, height_le, planes_le, bytes_le, offset_le, offset_next}
+use Rattle.layouts.proofs.Layouts.{allowed, planes_le, bytes_le, offset_le, offset_next}
 use Rattle.layouts.proofs.descent.Descent.next.Goals as goal
 
 -- one level further
@@ -20,14 +20,14 @@ pub overflow_shr-rows : goal.overflow_shr-rows
 overflow_shr-rows c = let s = c in omega (arith, (allowed s.args.layout s.requires.0).y)
 
 pub overflow_mul-rows : goal.overflow_mul-rows
-overflow_mul-rows c = 
+overflow_mul-rows c =
     let rows : c.stored.result * (c.args.self.height / 2 ^ c.args.layout.y_shift) ≡ stored_at c.args.layout c.args.level * height_at c.args.layout c.args.level = let s = c in ap₂ ◌*◌ c.stored.ensures (ap (λ (d : Descent). d.height / 2 ^ s.args.layout.y_shift) s.requires.2) in
     let s = c in
     let q = s.args.layout in
     omega (arith, rows, planes_le q (allowed q s.requires.0) s.args.level)
 
 pub overflow_mul-result : goal.overflow_mul-result
-overflow_mul-result c = 
+overflow_mul-result c =
     let rows : c.stored.result * (c.args.self.height / 2 ^ c.args.layout.y_shift) ≡ stored_at c.args.layout c.args.level * height_at c.args.layout c.args.level = let s = c in ap₂ ◌*◌ c.stored.ensures (ap (λ (d : Descent). d.height / 2 ^ s.args.layout.y_shift) s.requires.2) in
     let bytes : c.stored.result * (c.args.self.height / 2 ^ c.args.layout.y_shift) * c.args.layout.pitch ≡ bytes_at c.args.layout c.args.level = ap (λ (n : ℕ). n * c.args.layout.pitch) (rows) in
     let s = c in
@@ -35,7 +35,7 @@ overflow_mul-result c =
     omega (arith, bytes, bytes_le q (allowed q s.requires.0) s.args.level)
 
 pub overflow_add-result : goal.overflow_add-result
-overflow_add-result c = 
+overflow_add-result c =
     let rows : c.stored.result * (c.args.self.height / 2 ^ c.args.layout.y_shift) ≡ stored_at c.args.layout c.args.level * height_at c.args.layout c.args.level = let s = c in ap₂ ◌*◌ c.stored.ensures (ap (λ (d : Descent). d.height / 2 ^ s.args.layout.y_shift) s.requires.2) in
     let bytes : c.stored.result * (c.args.self.height / 2 ^ c.args.layout.y_shift) * c.args.layout.pitch ≡ bytes_at c.args.layout c.args.level = ap (λ (n : ℕ). n * c.args.layout.pitch) (rows) in
     let s = c in
@@ -44,7 +44,7 @@ overflow_add-result c =
     omega (arith, bytes, bytes_le q a s.args.level, ap (λ (d : Descent). d.offset) s.requires.2, offset_le q a s.args.level (omega (arith, s.requires.1)))
 
 pub returns : goal.returns
-returns c = 
+returns c =
     let rows : c.stored.result * (c.args.self.height / 2 ^ c.args.layout.y_shift) ≡ stored_at c.args.layout c.args.level * height_at c.args.layout c.args.level = let s = c in ap₂ ◌*◌ c.stored.ensures (ap (λ (d : Descent). d.height / 2 ^ s.args.layout.y_shift) s.requires.2) in
     let bytes : c.stored.result * (c.args.self.height / 2 ^ c.args.layout.y_shift) * c.args.layout.pitch ≡ bytes_at c.args.layout c.args.level = ap (λ (n : ℕ). n * c.args.layout.pitch) (rows) in
     let stored = c in

@@ -1,9 +1,6 @@
 -- `region` meets its contract. Assumes nothing.
-use mathlib.Core.Path.{ap}
-use Prim.Native.Nat.{◌/◌, ◌^◌}
 use native.Mathlib.Omega.{arith}
-use Rattle.layouts.specs.declared.descent.Descent.{Descent}
-use Rattle.layouts.proofs.Layouts.{allowed, width_le, height_le}
+use Rattle.layouts.proofs.Layouts.{allowed}
 use Rattle.layouts.proofs.descent.Descent.region.Goals as goal
 
 pub overflow_shr-result : goal.overflow_shr-result

@@ -1,11 +1,7 @@
 -- `with_bytes` meets its contract. So far the bytes passed stand there. Assumes nothing.
 use Prim.Native.Nat.{◌≤◌, ◌-◌}
-use native.Mathlib.Numerals.{add-one}
-use native.Mathlib.Omega.{arith}
 use lib.ListN.{length, take}
-use lib.Seq.{take-suc, take_all}
 use Rattle.lines.specs.Text.{Appended}
-use Rattle.lines.proofs.Lines.{nothing, ◌after◌, said, wider}
 use Rattle.lines.proofs.text.Line.with_bytes.Given as goal
 
 abbrev pub invariant-loop-i : goal.invariant-loop-i

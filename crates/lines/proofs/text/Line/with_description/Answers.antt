@@ -1,5 +1,4 @@
 -- `with_description` meets its contract. Assumes nothing.
-use borrow.Author.Rules.{rules}
 use Rattle.lines.specs.Text.{described}
 use Rattle.lines.proofs.Lines.{◌after◌}
 use Rattle.lines.proofs.text.Line.with_description.Goals as goal

@@ -5,7 +5,7 @@ use Rattle.lines.proofs.Lines.{◌after◌, int_said}
 use Rattle.lines.proofs.text.Line.with_sizes.Goals as goal
 
 pub returns : goal.returns
-returns c = 
+returns c =
     let fields : SizesFit c.args.d = search rules in
     let levels = c in
     let pel = levels in

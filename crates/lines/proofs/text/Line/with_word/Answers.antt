@@ -5,10 +5,9 @@ use mathlib.Core.List.{List, [], ◌++◌, append-nil}
 use Prim.Native.Nat.{ℕ}
 use native.Mathlib.Omega.{arith}
 use lib.Dec.{eqb}
-use borrow.Author.Rules.{rules}
 use Rattle.settings.specs.declared.refusal.Refusal.{Refusal}
 use Rattle.settings.specs.declared.word.Description.{Description}
-use Rattle.settings.specs.Answers.{Answer, answer, told, number, no_description}
+use Rattle.settings.specs.Answers.{Answer, answer, number, no_description}
 use Rattle.lines.specs.Text.{decimal, spaced, described, word_line}
 use Rattle.settings.proofs.Known.{number_some}
 use Rattle.lines.proofs.Lines.{◌after◌, said, wider}

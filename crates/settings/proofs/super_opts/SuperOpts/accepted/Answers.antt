@@ -26,7 +26,7 @@ returns-then-not-accepted_but_levels c = rw (sym c.accepted_but_levels.ensures â
 
 pub returns : goal.returns
 unfolding accepted
-returns c = 
+returns c =
     let levels : SFits w32 c.args.self.levels = search rules in
     let r = c.args.self in
     rw (sym c.accepted_but_levels.ensures âˆ™ not-false c.accepted_but_levels.result c.if-not-accepted_but_levels.false-raw, c.has_levels.ensures, c.naturals-n.ensures, same r.levels (levels))

@@ -19,7 +19,7 @@ returns-then-self c = let s = c in
 
 pub overflow_cast-result : goal.overflow_cast-result
 unfolding reduced
-overflow_cast-result c = 
+overflow_cast-result c =
     let halved : c.reduce_dim.result ≡ reduce (luma_w c.args.self) = let r = c.args.self in
     c.reduce_dim.ensures ∙ ap reduce (counts r.width c.natural.result (search rules) c.natural.ensures) in
     let small : c.reduce_dim.result < 2 ^ 31 = let s = c in omega (arith, halved, (within s.args.self s.requires).width) in
@@ -27,7 +27,7 @@ overflow_cast-result c =
 
 pub returns : goal.returns
 unfolding reduced
-returns c = 
+returns c =
     let halved : c.reduce_dim.result ≡ reduce (luma_w c.args.self) = let r = c.args.self in
     c.reduce_dim.ensures ∙ ap reduce (counts r.width c.natural.result (search rules) c.natural.ensures) in
     let small : c.reduce_dim.result < 2 ^ 31 = let s = c in omega (arith, halved, (within s.args.self s.requires).width) in

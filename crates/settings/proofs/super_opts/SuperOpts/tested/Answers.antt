@@ -7,7 +7,7 @@ use Rattle.settings.proofs.super_opts.SuperOpts.tested.Goals as goal
 
 pub returns : goal.returns
 unfolding settings_no
-returns c = 
+returns c =
     let fields : FieldsFit c.args.self = search rules in
     let lean4 = c in
     let finest3 = lean4 in

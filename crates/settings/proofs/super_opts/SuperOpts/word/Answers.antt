@@ -1,7 +1,6 @@
 -- `word` meets its contract. Assumes nothing.
 use mathlib.Core.Path.{ap}
 use native.Mathlib.Omega.{arith}
-use borrow.Author.Rules.{rules}
 use Rattle.settings.specs.declared.super_opts.Naturals.{Naturals}
 use Rattle.settings.specs.Word.{word_of}
 use Rattle.settings.proofs.Words.{small}
