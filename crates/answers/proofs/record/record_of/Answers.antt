@@ -1,7 +1,6 @@
 -- `record_of` meets its contract. Assumes nothing.
 use mathlib.Core.Path.{sym, ◌∙◌}
 use borrow.Author.Tests.{not-true, not-false}
-use borrow.Author.Rules.{rules}
 use Rattle.answers.proofs.Records.{no_record_of, record_fields, record_long}
 use Rattle.answers.proofs.record.record_of.Goals as goal
 

@@ -1,11 +1,7 @@
 -- `put_sizes` meets its contract. Assumes nothing.
-use mathlib.Core.Path.{refl}
 use Prim.Native.Nat.{◌-◌}
-use native.Mathlib.Nat.{zero-add}
-use native.Mathlib.Omega.{arith}
 use lib.ListN.{length}
-use Rattle.settings.proofs.Pasting.{Pasted, pasted_none, pasted_more, pasted_whole, from_start}
-use Rattle.answers.proofs.Putting.{put_short, put_fits}
+use Rattle.settings.proofs.Pasting.{Pasted}
 use Rattle.answers.proofs.room.put_sizes.Given as goal
 
 abbrev pub invariant-loop-i : goal.invariant-loop-i

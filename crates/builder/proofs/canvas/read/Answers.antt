@@ -1,13 +1,8 @@
 -- `read` meets its contract. Assumes nothing.
-use mathlib.Core.List.{◌++◌}
-use mathlib.Core.Path.{sym, ◌∙◌}
+use mathlib.Core.Path.{◌∙◌}
 use Prim.Native.Nat.{◌-◌}
 use native.Mathlib.Omega.{arith}
-use lib.ListN.{length, drop, length-take, length-drop}
-use lib.Seq.{length-take-le}
-use borrow.Table.Elements.{same_len}
-use borrow.Rule.Slice.PartMut.{same_len_mid}
-use borrow.Author.Rules.{rules}
+use lib.ListN.{length}
 use Rattle.builder.proofs.Runs.{fetch_past, copy_whole, read_cut}
 use Rattle.builder.proofs.canvas.read.Goals as goal
 
@@ -18,5 +13,6 @@ pub returns-then-out-k : goal.returns-then-out-k
 returns-then-out-k c = let a = c.args in copy_whole a.c.now a.out.now _ a.start (omega (arith, c.if-out-k.true, c.if-len-start.false)) c.copy_row.ensures
 
 pub returns : goal.returns
-returns c = let a = c.args in
+returns c =
+    let a = c.args in
     read_cut a.c.now a.out.now _ a.start (length a.c.now - a.start) (omega (arith, c.if-len-start.false)) (omega (arith, c.if-out-k.false)) c.copy_row-2.ensures _ c.zero_row-2.ensures

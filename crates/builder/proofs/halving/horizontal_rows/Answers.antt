@@ -1,11 +1,8 @@
-use mathlib.Core.Path.{◌≡◌, refl, ◌∙◌}
-use Prim.Native.Nat.{◌+◌, ◌*◌, ◌-◌}
-use native.Mathlib.Nat.{le_refl}
+use mathlib.Core.Path.{refl, ◌∙◌}
+use Prim.Native.Nat.{◌+◌, ◌*◌}
 use native.Mathlib.Omega.{arith}
-use lib.ListN.{length}
-use Rattle.layouts.proofs.Loops.{row_fits, Walked, walked_none, walked_more, walked_whole, next_fits, next_less}
-use borrow.Author.Rules.{rules}
-use Rattle.builder.specs.Halving.{halve_run, horizontal_rows}
+use Rattle.layouts.proofs.Loops.{row_fits, walked_none, walked_more, walked_whole}
+use Rattle.builder.specs.Halving.{horizontal_rows}
 use Rattle.builder.proofs.Halves.{halve_alone}
 use Rattle.builder.proofs.halving.horizontal_rows.Goals as goal
 
@@ -13,13 +10,13 @@ pub loop-y-init : goal.loop-y-init
 loop-y-init c = (walked_none, refl)
 
 pub loop-y-preserved : goal.loop-y-preserved
-loop-y-preserved c = let s = c in
+loop-y-preserved c =
     let l = c.loop-y in
     let lt = c.loop-y-test.true in
     let v = c.finish_row in
-    let w = s.args.target.width in
-    let at = s.args.target.offset + l.y * s.args.pitch in
-    (walked_more l.invariant.0 lt v.auto.frame (v.ensures ∙ halve_alone s.args.filter w at _ (omega (arith, row_fits _ _ _ _ _ _ s.requires.1 s.requires.2 lt, l.invariant.0.same))), v.auto.scratch ∙ l.invariant.1)
+    let w = c.args.target.width in
+    let at = c.args.target.offset + l.y * c.args.pitch in
+    (walked_more l.invariant.0 lt v.auto.frame (v.ensures ∙ halve_alone c.args.filter w at _ (omega (arith, row_fits _ _ _ _ _ _ c.requires.1 c.requires.2 lt, l.invariant.0.same))), v.auto.scratch ∙ l.invariant.1)
 
 pub returns : goal.returns
 unfolding horizontal_rows

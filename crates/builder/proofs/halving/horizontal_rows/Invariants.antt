@@ -1,13 +1,9 @@
 -- `horizontal_rows` meets its contract. The loop has halved the rows passed. Assumes nothing.
-use mathlib.Core.Path.{◌≡◌, refl, ◌∙◌}
+use mathlib.Core.Path.{◌≡◌}
 use Prim.Native.Nat.{◌+◌, ◌*◌, ◌-◌}
-use native.Mathlib.Nat.{le_refl}
-use native.Mathlib.Omega.{arith}
 use lib.ListN.{length}
-use Rattle.layouts.proofs.Loops.{row_fits, Walked, walked_none, walked_more, walked_whole, next_fits, next_less}
-use borrow.Author.Rules.{rules}
-use Rattle.builder.specs.Halving.{halve_run, horizontal_rows}
-use Rattle.builder.proofs.Halves.{halve_alone}
+use Rattle.layouts.proofs.Loops.{Walked}
+use Rattle.builder.specs.Halving.{halve_run}
 use Rattle.builder.proofs.halving.horizontal_rows.Given as goal
 
 abbrev pub invariant-loop-y : goal.invariant-loop-y

@@ -1,23 +1,20 @@
-use mathlib.Core.Path.{◌≡◌, refl, ap, ◌∙◌}
-use Prim.Native.Nat.{ℕ, ◌+◌, ◌*◌, ◌-◌}
-use native.Mathlib.Omega.{arith}
-use lib.ListN.{length}
+use mathlib.Core.Path.{refl, ap, ◌∙◌}
+use Prim.Native.Nat.{ℕ, ◌+◌, ◌*◌}
 use Rattle.filters.specs.declared.halving.ReduceFilter.TheVariants.{Cubic}
 use Rattle.layouts.specs.Storing.{put}
-use Rattle.layouts.proofs.Loops.{Walked, walked_none, walked_more, walked_whole, next_less}
+use Rattle.layouts.proofs.Loops.{walked_none, walked_more, walked_whole}
 use Rattle.builder.specs.Halving.{vertical_line, fused_line, fused}
-use Rattle.builder.proofs.Halves.{within_kept}
 use Rattle.builder.proofs.halving.reduce_cubic.Goals as goal
 
 pub loop-y-init : goal.loop-y-init
 loop-y-init c = (walked_none, refl)
 
 pub loop-y-preserved : goal.loop-y-preserved
-loop-y-preserved c = let s = c in
-    let t = s.args.target in
+loop-y-preserved c =
+    let t = c.args.target in
     let l = c.loop-y in
     let v = c.fused_row in
-    (walked_more l.invariant.0 c.loop-y-test.true v.auto.frame (v.ensures ∙ ap (λ (n : ℕ). put l.frame (t.offset + l.y * s.args.pitch) (fused_line s.args.pitch t.width (vertical_line Cubic n (2 * t.width) t.height l.frame s.args.base s.args.pitch l.y))) s.requires.1), v.auto.scratch ∙ l.invariant.1)
+    (walked_more l.invariant.0 c.loop-y-test.true v.auto.frame (v.ensures ∙ ap (λ (n : ℕ). put l.frame (t.offset + l.y * c.args.pitch) (fused_line c.args.pitch t.width (vertical_line Cubic n (2 * t.width) t.height l.frame c.args.base c.args.pitch l.y))) c.requires.1), v.auto.scratch ∙ l.invariant.1)
 
 pub returns : goal.returns
 unfolding fused

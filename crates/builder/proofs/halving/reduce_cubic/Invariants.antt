@@ -1,13 +1,11 @@
 -- `reduce_cubic` meets its contract. The loop has stored the rows passed. Assumes nothing.
-use mathlib.Core.Path.{◌≡◌, refl, ap, ◌∙◌}
-use Prim.Native.Nat.{ℕ, ◌+◌, ◌*◌, ◌-◌}
-use native.Mathlib.Omega.{arith}
+use mathlib.Core.Path.{◌≡◌}
+use Prim.Native.Nat.{◌+◌, ◌*◌, ◌-◌}
 use lib.ListN.{length}
 use Rattle.filters.specs.declared.halving.ReduceFilter.TheVariants.{Cubic}
 use Rattle.layouts.specs.Storing.{put}
-use Rattle.layouts.proofs.Loops.{Walked, walked_none, walked_more, walked_whole, next_less}
-use Rattle.builder.specs.Halving.{vertical_line, fused_line, fused}
-use Rattle.builder.proofs.Halves.{within_kept}
+use Rattle.layouts.proofs.Loops.{Walked}
+use Rattle.builder.specs.Halving.{vertical_line, fused_line}
 use Rattle.builder.proofs.halving.reduce_cubic.Given as goal
 
 abbrev pub invariant-loop-y : goal.invariant-loop-y

@@ -1,7 +1,6 @@
 -- `reduce_within` meets its contract. Assumes nothing.
 use mathlib.Core.Path.{ap, ◌∙◌}
 use Rattle.builder.specs.Halving.{horizontal_rows, from_stored}
-use borrow.Author.Rules.{rules}
 use Rattle.builder.proofs.halving.reduce_within.Goals as goal
 
 pub returns : goal.returns

@@ -1,18 +1,14 @@
-use mathlib.Core.Path.{◌≡◌, refl, ◌∙◌}
-use Prim.Native.Nat.{◌+◌, ◌*◌, ◌-◌}
-use native.Mathlib.Omega.{arith}
-use lib.ListN.{length}
-use Rattle.layouts.specs.Storing.{put}
-use Rattle.layouts.proofs.Loops.{Walked, walked_none, walked_more, walked_whole, next_less}
-use Rattle.builder.specs.Halving.{whole_of, vertical_line, vertical_rows}
-use Rattle.builder.proofs.Halves.{within_kept}
+use mathlib.Core.Path.{refl, ◌∙◌}
+use Rattle.layouts.proofs.Loops.{walked_none, walked_more, walked_whole}
+use Rattle.builder.specs.Halving.{vertical_rows}
 use Rattle.builder.proofs.halving.vertical_rows.Goals as goal
 
 pub loop-y-init : goal.loop-y-init
 loop-y-init c = (walked_none, refl)
 
 pub loop-y-preserved : goal.loop-y-preserved
-loop-y-preserved c = let l = c.loop-y in
+loop-y-preserved c =
+    let l = c.loop-y in
     let v = c.vertical_row in
     (walked_more l.invariant.0 c.loop-y-test.true v.auto.frame v.ensures, v.auto.scratch ∙ l.invariant.1)
 

@@ -1,12 +1,10 @@
 -- `vertical_rows` meets its contract. The loop has stored the rows passed. Assumes nothing.
-use mathlib.Core.Path.{◌≡◌, refl, ◌∙◌}
+use mathlib.Core.Path.{◌≡◌}
 use Prim.Native.Nat.{◌+◌, ◌*◌, ◌-◌}
-use native.Mathlib.Omega.{arith}
 use lib.ListN.{length}
 use Rattle.layouts.specs.Storing.{put}
-use Rattle.layouts.proofs.Loops.{Walked, walked_none, walked_more, walked_whole, next_less}
-use Rattle.builder.specs.Halving.{whole_of, vertical_line, vertical_rows}
-use Rattle.builder.proofs.Halves.{within_kept}
+use Rattle.layouts.proofs.Loops.{Walked}
+use Rattle.builder.specs.Halving.{whole_of, vertical_line}
 use Rattle.builder.proofs.halving.vertical_rows.Given as goal
 
 abbrev pub invariant-loop-y : goal.invariant-loop-y

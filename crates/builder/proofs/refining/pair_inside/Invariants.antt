@@ -1,13 +1,6 @@
 -- `pair_inside` meets its contract. The loop has laid the bytes passed. Assumes nothing.
-use mathlib.Core.Logic.{◌⊎◌, inl, inr, ⊎_elim}
-use mathlib.Core.Path.{ap, ◌∙◌}
-use Prim.Native.Nat.{ℕ, ◌+◌, ◌-◌, ◌≤◌, ◌<◌}
-use native.Mathlib.Omega.{arith}
-use lib.ListN.{get_or}
-use borrow.Author.Rules.{rules}
-use Rattle.filters.specs.Row.{mean_of}
-use Rattle.layouts.proofs.Loops.{next_fits, next_less}
-use Rattle.builder.proofs.Refined.{Laid, laid_none, laid_more, laid_whole, laid_read, mean_at, pair_laid}
+use Prim.Native.Nat.{◌-◌}
+use Rattle.builder.proofs.Refined.{Laid, mean_at}
 use Rattle.builder.proofs.refining.pair_inside.Given as goal
 
 abbrev pub invariant-loop-i : goal.invariant-loop-i

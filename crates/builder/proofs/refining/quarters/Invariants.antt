@@ -1,14 +1,8 @@
 -- `quarters` meets its contract. The loop has made the pairs passed. Assumes nothing.
-use mathlib.Core.Path.{◌∙◌}
-use mathlib.Core.List.{◌++◌}
-use Prim.Native.Nat.{◌+◌, ◌-◌}
-use native.Mathlib.Omega.{arith}
+use Prim.Native.Nat.{◌-◌}
 use lib.ListN.{get_or}
-use mir.Facts.{Fits-lit}
-use Rattle.layouts.proofs.Loops.{walked_whole, next_fits, next_less}
 use Rattle.builder.specs.Refining.{pair_of, pairs, quarter}
-use Rattle.builder.proofs.Runs.{Passed, passed_none, passed_more}
-use Rattle.builder.proofs.Refined.{planes_kept, table_row, table_walked}
+use Rattle.builder.proofs.Runs.{Passed}
 use Rattle.builder.proofs.refining.quarters.Given as goal
 
 abbrev pub invariant-loop-k : goal.invariant-loop-k

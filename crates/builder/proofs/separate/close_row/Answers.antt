@@ -1,18 +1,15 @@
 -- `close_row` meets its contract. Assumes nothing.
-use mathlib.Core.Path.{sym, ap, ◌∙◌}
+use mathlib.Core.Path.{ap, ◌∙◌}
 use mathlib.Core.List.{◌++◌}
-use native.Mathlib.Omega.{arith}
 use lib.Seq.{length-take-le}
-use borrow.Table.Elements.{same_len}
 use Rattle.layouts.specs.Storing.{put}
 use Rattle.builder.specs.Canvas.{fetch, copy_run}
-use borrow.Author.Rules.{rules}
 use Rattle.builder.proofs.separate.close_row.Goals as goal
 
 pub returns : goal.returns
 unfolding copy_run
-returns c = let s = c in
-    let a = s.args in
+returns c =
+    let a = c.args in
     let d = a.frame.now ++ a.spill.now in
     c.store.ensures
-    ∙ ap (put d a.to) (c.fetch.ensures ∙ ap (fetch d a.from) (length-take-le a.n a.scratch.now s.requires.0))
+    ∙ ap (put d a.to) (c.fetch.ensures ∙ ap (fetch d a.from) (length-take-le a.n a.scratch.now c.requires.0))

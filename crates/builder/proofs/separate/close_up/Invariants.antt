@@ -1,12 +1,7 @@
 -- `close_up` meets its contract. The loop has closed up the rows passed. Assumes nothing.
 use Prim.Native.Nat.{◌+◌, ◌*◌, ◌-◌, ◌≤◌}
-use native.Mathlib.Omega.{arith}
-use lib.ListN.{length}
-use Rattle.layouts.proofs.Loops.{walked_whole, next_fits, next_less}
 use Rattle.builder.specs.Canvas.{copy_run}
-use Rattle.builder.specs.Halving.{close_up}
-use Rattle.builder.proofs.Runs.{Passed, passed_none, passed_next}
-use Rattle.builder.proofs.Spreads.{spread_row, closed_row}
+use Rattle.builder.proofs.Runs.{Passed}
 use Rattle.builder.proofs.separate.close_up.Given as goal
 
 abbrev pub invariant-loop-y : goal.invariant-loop-y

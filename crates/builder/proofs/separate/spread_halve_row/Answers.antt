@@ -1,21 +1,18 @@
 -- `spread_halve_row` meets its contract. Assumes nothing.
 use Rattle.filters.specs.Inner.{reduced_apart}
-use mathlib.Core.Path.{sym, ap, ◌∙◌}
+use mathlib.Core.Path.{ap, ◌∙◌}
 use mathlib.Core.List.{◌++◌}
 use Prim.Native.Nat.{ℕ}
-use native.Mathlib.Omega.{arith}
-use borrow.Table.Elements.{same_len}
 use Rattle.layouts.specs.Storing.{put}
 use Rattle.builder.proofs.Spreads.{half_line, halved_run}
-use borrow.Author.Rules.{rules}
 use Rattle.builder.proofs.separate.spread_halve_row.Goals as goal
 
 pub returns : goal.returns
-returns c = let s = c in
-    let a = s.args in
+returns c =
+    let a = c.args in
     let d = a.frame.now ++ a.spill.now in
     let k = c.take_row in
-    let e = half_line a.w k.new.scratch k.auto.scratch s.requires.2 in
+    let e = half_line a.w k.new.scratch k.auto.scratch c.requires.2 in
     c.store.ensures
     ∙ ap (put d a.at) (c.reduce_row.ensures ∙ ap (λ (n : ℕ). reduced_apart a.filter n k.new.split) e)
-    ∙ halved_run a.filter a.w a.at d s.requires.0 k.ensures
+    ∙ halved_run a.filter a.w a.at d c.requires.0 k.ensures

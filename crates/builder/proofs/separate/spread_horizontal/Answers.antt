@@ -1,18 +1,15 @@
-use mathlib.Core.Path.{◌≡◌, refl, ◌∙◌}
-use Prim.Native.Nat.{◌+◌, ◌*◌, ◌-◌, ◌≤◌}
-use native.Mathlib.Omega.{arith}
-use lib.ListN.{length}
-use Rattle.layouts.proofs.Loops.{walked_whole, next_fits, next_less}
-use Rattle.builder.specs.Halving.{halve_run, horizontal_rows}
-use Rattle.builder.proofs.Runs.{Passed, passed_none, passed_more}
-use Rattle.builder.proofs.Spreads.{spread_row}
+use mathlib.Core.Path.{refl, ◌∙◌}
+use Rattle.layouts.proofs.Loops.{walked_whole}
+use Rattle.builder.specs.Halving.{horizontal_rows}
+use Rattle.builder.proofs.Runs.{passed_none, passed_more}
 use Rattle.builder.proofs.separate.spread_horizontal.Goals as goal
 
 pub loop-y-init : goal.loop-y-init
 loop-y-init c = (passed_none, refl)
 
 pub loop-y-preserved : goal.loop-y-preserved
-loop-y-preserved c = let l = c.loop-y in
+loop-y-preserved c =
+    let l = c.loop-y in
     let r = c.spread_halve_row in
     (passed_more l.invariant.0 c.loop-y-test.true r.auto.frame r.auto.spill r.auto.scratch r.ensures, r.auto.split ∙ l.invariant.1)
 

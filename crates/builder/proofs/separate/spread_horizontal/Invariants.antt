@@ -1,12 +1,9 @@
 -- `spread_horizontal` meets its contract. The loop has halved the rows passed. Assumes nothing.
-use mathlib.Core.Path.{◌≡◌, refl, ◌∙◌}
-use Prim.Native.Nat.{◌+◌, ◌*◌, ◌-◌, ◌≤◌}
-use native.Mathlib.Omega.{arith}
+use mathlib.Core.Path.{◌≡◌}
+use Prim.Native.Nat.{◌+◌, ◌*◌, ◌-◌}
 use lib.ListN.{length}
-use Rattle.layouts.proofs.Loops.{walked_whole, next_fits, next_less}
-use Rattle.builder.specs.Halving.{halve_run, horizontal_rows}
-use Rattle.builder.proofs.Runs.{Passed, passed_none, passed_more}
-use Rattle.builder.proofs.Spreads.{spread_row}
+use Rattle.builder.specs.Halving.{halve_run}
+use Rattle.builder.proofs.Runs.{Passed}
 use Rattle.builder.proofs.separate.spread_horizontal.Given as goal
 
 abbrev pub invariant-loop-y : goal.invariant-loop-y

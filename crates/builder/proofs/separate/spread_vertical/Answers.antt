@@ -1,10 +1,6 @@
-use Prim.Native.Nat.{◌+◌, ◌*◌, ◌-◌}
-use native.Mathlib.Omega.{arith}
-use Rattle.layouts.specs.Storing.{put}
-use Rattle.layouts.proofs.Loops.{walked_whole, next_less}
-use Rattle.builder.specs.Halving.{whole_of, vertical_line, vertical_rows}
-use Rattle.builder.proofs.Runs.{Passed, passed_none, passed_more}
-use Rattle.builder.proofs.Spreads.{spread_kept}
+use Rattle.layouts.proofs.Loops.{walked_whole}
+use Rattle.builder.specs.Halving.{vertical_rows}
+use Rattle.builder.proofs.Runs.{passed_none, passed_more}
 use Rattle.builder.proofs.separate.spread_vertical.Goals as goal
 
 pub loop-y-init : goal.loop-y-init

@@ -1,11 +1,8 @@
 -- `spread_vertical` meets its contract. The loop has stored the rows passed. Assumes nothing.
 use Prim.Native.Nat.{◌+◌, ◌*◌, ◌-◌}
-use native.Mathlib.Omega.{arith}
 use Rattle.layouts.specs.Storing.{put}
-use Rattle.layouts.proofs.Loops.{walked_whole, next_less}
-use Rattle.builder.specs.Halving.{whole_of, vertical_line, vertical_rows}
-use Rattle.builder.proofs.Runs.{Passed, passed_none, passed_more}
-use Rattle.builder.proofs.Spreads.{spread_kept}
+use Rattle.builder.specs.Halving.{whole_of, vertical_line}
+use Rattle.builder.proofs.Runs.{Passed}
 use Rattle.builder.proofs.separate.spread_vertical.Given as goal
 
 abbrev pub invariant-loop-y : goal.invariant-loop-y

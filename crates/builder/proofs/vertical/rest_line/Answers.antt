@@ -4,7 +4,6 @@ use lib.ListN.{length}
 use Rattle.filters.specs.Halve.{rest_of}
 use Rattle.builder.specs.Halving.{rest_line}
 use Rattle.builder.proofs.Lines.{sixes_same}
-use borrow.Author.Rules.{rules}
 use Rattle.builder.proofs.vertical.rest_line.Goals as goal
 
 pub returns : goal.returns

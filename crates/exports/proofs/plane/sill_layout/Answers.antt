@@ -1,20 +1,15 @@
 -- `sill_layout` meets its contract. Assumes nothing.
-use mathlib.Core.Path.{◌≡◌, sym, ap, ◌∙◌}
-use Prim.Native.Nat.{ℕ}
-use Rattle.settings.specs.Answers.{tested}
+use mathlib.Core.Path.{sym, ap, ◌∙◌}
 use Rattle.layouts.specs.declared.layout.Layout.{Layout}
-use Rattle.layouts.specs.Refusals.{layout_no}
 use Rattle.stored.specs.Layout.{stored_of}
 use Rattle.stored.proofs.Places.{stored_long}
-use Rattle.answers.specs.Lent.{tells}
 use Rattle.answers.proofs.Telling.{tell_refused}
 use Rattle.exports.specs.Calls.{layout_tells}
-use borrow.Author.Rules.{rules}
 use Rattle.exports.proofs.plane.sill_layout.Goals as goal
 
 pub returns-in-Refused : goal.returns-in-Refused
-returns-in-Refused c = let q = c.layout_of-q.result in
+returns-in-Refused c =
+    let q = c.layout_of-q.result in
     let l = c.args.layout.now in
-    tell_refused c.in-Refused.f (stored_of q) l (c.in-Refused.ensures) c.lowest.ensures (sym (stored_long q))
+    tell_refused c.in-Refused.f (stored_of q) l c.in-Refused.ensures c.lowest.ensures (sym (stored_long q))
     ∙ ap (λ (x : Layout). layout_tells x l) c.layout_of-q.ensures
-

@@ -10,5 +10,6 @@ loop-at-preserved c = let a = c.args in means_part a.a.now a.b.now c.loop-at.inv
 
 pub returns : goal.returns
 unfolding means_of
-returns c = let a = c.args in
+returns c =
+    let a = c.args in
     filled_whole (means_part a.a.now a.b.now {i = length a.out.now - 64} (filled_fewer c.loop-at.invariant (omega arith)) 64 (omega arith) c.mean_block-2.ensures) (omega arith)

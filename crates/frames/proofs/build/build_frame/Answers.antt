@@ -1,10 +1,7 @@
 -- `build_frame` meets its contract. Assumes nothing.
-use mathlib.Core.Path.{◌≡◌, sym, ap, ◌∙◌}
-use mathlib.Core.List.{List}
-use Prim.Native.Nat.{ℕ}
+use mathlib.Core.Path.{sym, ap, ◌∙◌}
 use lib.ListN.{length, replicate}
-use borrow.Author.Rules.{rules}
-use Rattle.settings.specs.Answers.{answer, tested}
+use Rattle.settings.specs.Answers.{answer}
 use Rattle.settings.proofs.Known.{given, refused}
 use Rattle.planes.proofs.Whole.{lent_zeroed}
 use Rattle.frames.specs.Build.{three, lent_frame_no, build_frame_no, frame_left}

@@ -1,23 +1,20 @@
 -- `build_tested` meets its contract. Assumes nothing.
 use mathlib.Core.Path.{◌≡◌, refl, sym, ap, ◌∙◌}
 use mathlib.Core.Bool.{Bool, ◌||◌}
-use Prim.Native.Nat.{ℕ, ◌≤◌}
-use native.Mathlib.Omega.{arith}
-use borrow.Author.Rules.{rules}
-use Rattle.settings.specs.Limits.{most_pitch}
+use Prim.Native.Nat.{ℕ}
 use Rattle.settings.specs.Numbers.{refuse, ◌then◌}
 use Rattle.settings.specs.Answers.{tested}
 use Rattle.layouts.specs.Layout.{width_at}
 use Rattle.layouts.specs.Refusals.{bad_pitch}
-use Rattle.layouts.proofs.Layouts.{pitch_within, then_kept}
+use Rattle.layouts.proofs.Layouts.{then_kept}
 use Rattle.frames.specs.Parts.{plane_of, planes_no}
 use Rattle.frames.specs.Build.{three, any_of, lent_frame_no, build_frame_no}
-use Rattle.frames.proofs.Prepared.{none_of}
 use Rattle.frames.proofs.build.build_tested.Goals as goal
 
 pub returns-in_default : goal.returns-in_default
 unfolding build_frame_no
-returns-in_default c = let s = c.args in
+returns-in_default c =
+    let s = c.args in
     let f = c.planes_tested-t.ensures in
     let n = planes_no s.opts in
     let e = sym (ap tested c.in_default.is) ∙ f in
@@ -28,16 +25,16 @@ returns-in_default c = let s = c.args in
 
 pub returns-then-bad : goal.returns-then-bad
 unfolding build_frame_no
-returns-then-bad c = 
-    let passed : planes_no c.args.opts ≡ 0 = let told = c in sym told.planes_tested-t.ensures ∙ ap tested told.in-Fine.is in
+returns-then-bad c =
+    let passed : planes_no c.args.opts ≡ 0 = sym c.planes_tested-t.ensures ∙ ap tested c.in-Fine.is in
     let isBad : ℕ → Bool = λ k. let s = c.args in bad_pitch (three s.y_pitch s.u_pitch s.v_pitch k) (width_at (plane_of s.opts k) 0) in
     let bad : any_of (isBad) ≡ (c.bad_source_pitch.result || c.bad_source_pitch-2.result || c.bad_source_pitch-3.result) = rw (c.bad_source_pitch-3.ensures, c.bad_source_pitch-2.ensures, c.bad_source_pitch.ensures) refl in
     rw (passed, bad ∙ c.if-bad.true) refl
 
 pub returns : goal.returns
 unfolding build_frame_no
-returns c = 
-    let passed : planes_no c.args.opts ≡ 0 = let told = c in sym told.planes_tested-t.ensures ∙ ap tested told.in-Fine.is in
+returns c =
+    let passed : planes_no c.args.opts ≡ 0 = sym c.planes_tested-t.ensures ∙ ap tested c.in-Fine.is in
     let isBad : ℕ → Bool = λ k. let s = c.args in bad_pitch (three s.y_pitch s.u_pitch s.v_pitch k) (width_at (plane_of s.opts k) 0) in
     let bad : any_of (isBad) ≡ (c.bad_source_pitch.result || c.bad_source_pitch-2.result || c.bad_source_pitch-3.result) = rw (c.bad_source_pitch-3.ensures, c.bad_source_pitch-2.ensures, c.bad_source_pitch.ensures) refl in
     c.lent_tested.ensures ∙ rw (passed, bad ∙ c.if-bad.false) refl

@@ -1,10 +1,8 @@
 -- `frame_row_place` meets its contract. Assumes nothing.
-use mathlib.Core.Path.{sym, ap, ◌∙◌}
-use borrow.Author.Rules.{rules}
-use Rattle.settings.specs.Answers.{tested}
 use Rattle.frames.proofs.Rows.{refused_planes}
 use Rattle.frames.proofs.parts.frame_row_place.Goals as goal
 
 pub returns-in-Refused : goal.returns-in-Refused
-returns-in-Refused c = let s = c.args in
-    refused_planes s.opts s.part s.level s.plane s.y s.len c.in-Refused.f (c.in-Refused.ensures)
+returns-in-Refused c =
+    let s = c.args in
+    refused_planes s.opts s.part s.level s.plane s.y s.len c.in-Refused.f c.in-Refused.ensures

@@ -1,11 +1,10 @@
 -- `part_length` meets its contract. Assumes nothing.
-use mathlib.Core.Path.{ap, ◌∙◌}
+use mathlib.Core.Path.{ap}
 use native.Mathlib.Omega.{arith}
 use Rattle.settings.specs.declared.super_opts.Naturals.{Naturals}
 use Rattle.settings.proofs.Accepted.{levels_most}
-use Rattle.frames.proofs.Laid.{taken, laid_plane, length_by}
+use Rattle.frames.proofs.Laid.{taken, laid_plane}
 use Rattle.frames.proofs.parts.part_length.Goals as goal
 
 pub offset-requires : goal.offset-requires
-offset-requires c = let s = c in
-    (laid_plane s.args.opts s.requires s.args.part c.plane_of.ensures, omega (arith, ap (λ (x : Naturals). x.levels) c.naturals-n.ensures, levels_most s.args.opts (taken s.args.opts s.requires).good))
+offset-requires c = (laid_plane c.args.opts c.requires c.args.part c.plane_of.ensures, omega (arith, ap (λ (x : Naturals). x.levels) c.naturals-n.ensures, levels_most c.args.opts (taken c.args.opts c.requires).good))

@@ -2,7 +2,6 @@
 use mathlib.Core.Path.{◌≡◌, ap, ◌∙◌}
 use Prim.Native.Nat.{ℕ, ◌+◌, ◌≤◌}
 use native.Mathlib.Omega.{arith}
-use borrow.Author.Rules.{rules}
 use Rattle.settings.specs.declared.super_opts.SuperOpts.{SuperOpts}
 use Rattle.layouts.specs.declared.layout.Layout.{Layout}
 use Rattle.layouts.specs.Layout.{spill_need, scratch_need}
@@ -16,33 +15,27 @@ by_parts : (r : SuperOpts) {a b p q m n : ℕ} → a ≡ length_of r 0 → b ≡
 by_parts r la lb lp lq lm ln = rw (la, lb, lp, lq, lm, ln, start_first r, ← (starts r).0, ← (starts r).1, ← (starts r).2)
 
 pub overflow_add-result : goal.overflow_add-result
-overflow_add-result c = 
-    let small : (c.part_length-long.result ≤ most_offset) × (c.part_length-short.result ≤ most_offset) = let s = c in
-    (omega (arith, c.part_length-long.ensures, length_le s.args.opts s.requires 0), omega (arith, c.part_length-short.ensures, length_le s.args.opts s.requires 1)) in
+overflow_add-result c =
+    let small : (c.part_length-long.result ≤ most_offset) × (c.part_length-short.result ≤ most_offset) = (omega (arith, c.part_length-long.ensures, length_le c.args.opts c.requires 0), omega (arith, c.part_length-short.ensures, length_le c.args.opts c.requires 1)) in
     omega (arith, small)
 
 pub overflow_add-result-2 : goal.overflow_add-result-2
-overflow_add-result-2 c = 
-    let small : (c.part_length-long.result ≤ most_offset) × (c.part_length-short.result ≤ most_offset) = let s = c in
-    (omega (arith, c.part_length-long.ensures, length_le s.args.opts s.requires 0), omega (arith, c.part_length-short.ensures, length_le s.args.opts s.requires 1)) in
+overflow_add-result-2 c =
+    let small : (c.part_length-long.result ≤ most_offset) × (c.part_length-short.result ≤ most_offset) = (omega (arith, c.part_length-long.ensures, length_le c.args.opts c.requires 0), omega (arith, c.part_length-short.ensures, length_le c.args.opts c.requires 1)) in
     omega (arith, small)
 
 pub overflow_add-result-3 : goal.overflow_add-result-3
-overflow_add-result-3 c = 
-    let small : (c.part_length-long.result ≤ most_offset) × (c.part_length-short.result ≤ most_offset) = let s = c in
-    (omega (arith, c.part_length-long.ensures, length_le s.args.opts s.requires 0), omega (arith, c.part_length-short.ensures, length_le s.args.opts s.requires 1)) in
+overflow_add-result-3 c =
+    let small : (c.part_length-long.result ≤ most_offset) × (c.part_length-short.result ≤ most_offset) = (omega (arith, c.part_length-long.ensures, length_le c.args.opts c.requires 0), omega (arith, c.part_length-short.ensures, length_le c.args.opts c.requires 1)) in
     omega (arith, small)
 
 pub spill_need-requires : goal.spill_need-requires
-spill_need-requires c = let s = c in laid_plane s.args.opts s.requires 0 c.plane_of-luma.ensures
+spill_need-requires c = laid_plane c.args.opts c.requires 0 c.plane_of-luma.ensures
 
 pub scratch_need-requires : goal.scratch_need-requires
-scratch_need-requires c = let s = c in laid_plane s.args.opts s.requires 0 c.plane_of-luma.ensures
+scratch_need-requires c = laid_plane c.args.opts c.requires 0 c.plane_of-luma.ensures
 
 pub returns : goal.returns
-returns c = let long = c in
-    let chroma = long in
-    let luma = chroma in
-    by_parts luma.args.opts long.part_length-long.ensures c.part_length-short.ensures (ap (λ (q : Layout). q.pitch) luma.plane_of-luma.ensures) (ap (λ (q : Layout). q.pitch) chroma.plane_of-chroma.ensures)
-    (c.spill_need.ensures ∙ ap spill_need luma.plane_of-luma.ensures)
-    (c.scratch_need.ensures ∙ ap scratch_need luma.plane_of-luma.ensures)
+returns c = by_parts c.args.opts c.part_length-long.ensures c.part_length-short.ensures (ap (λ (q : Layout). q.pitch) c.plane_of-luma.ensures) (ap (λ (q : Layout). q.pitch) c.plane_of-chroma.ensures)
+    (c.spill_need.ensures ∙ ap spill_need c.plane_of-luma.ensures)
+    (c.scratch_need.ensures ∙ ap scratch_need c.plane_of-luma.ensures)

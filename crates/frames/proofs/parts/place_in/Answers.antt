@@ -4,7 +4,6 @@ use mathlib.Core.Bool.{true, false}
 use native.Mathlib.Omega.{arith}
 use lib.Dec.{leb}
 use borrow.Author.Tests.{le-leb, lt-leb}
-use borrow.Author.Rules.{rules}
 use Rattle.settings.specs.declared.refusal.Refusal.TheVariants.{NoRow, Lent}
 use Rattle.settings.specs.declared.refusal.BadLent.TheVariants.{Frame}
 use Rattle.settings.specs.Numbers.{refuse}
@@ -21,57 +20,46 @@ use Rattle.frames.proofs.Rows.{part_short, part_long, moved, moved-le, placed_in
 use Rattle.frames.proofs.parts.place_in.Goals as goal
 
 pub returns-then-len-parts : goal.returns-then-len-parts
-returns-then-len-parts c = 
+returns-then-len-parts c =
     let end : c.parts_of-parts.result.length ≡ joined_end c.args.opts = ap (λ (p : Parts). p.length) c.parts_of-parts.ensures in
-    let s = c in
-    let a = s.args in
-    refused_in a.opts a.part a.level a.plane a.y a.len (Lent Frame) (part_short a.opts a.len a.part s.requires (omega (arith, end, c.if-len-parts.true)))
+    let a = c.args in
+    refused_in a.opts a.part a.level a.plane a.y a.len (Lent Frame) (part_short a.opts a.len a.part c.requires (omega (arith, end, c.if-len-parts.true)))
 
 pub returns-then-part-gt2 : goal.returns-then-part-gt2
-returns-then-part-gt2 c = 
+returns-then-part-gt2 c =
     let end : c.parts_of-parts.result.length ≡ joined_end c.args.opts = ap (λ (p : Parts). p.length) c.parts_of-parts.ensures in
-    let s = c in
-    let a = s.args in
+    let a = c.args in
     let none : leb 3 a.part ≡ true = le-leb 3 a.part (omega (arith, c.if-part-gt2.true)) in
-    refused_in a.opts a.part a.level a.plane a.y a.len NoRow (sym (ap (λ t. refuse t 19) none) ∙ part_long a.opts a.len a.part s.requires (omega (arith, end, c.if-len-parts.false)))
+    refused_in a.opts a.part a.level a.plane a.y a.len NoRow (sym (ap (λ t. refuse t 19) none) ∙ part_long a.opts a.len a.part c.requires (omega (arith, end, c.if-len-parts.false)))
 
 pub row_in-requires : goal.row_in-requires
-row_in-requires c = let s = c in
-    laid_plane s.args.opts s.requires s.args.part c.plane_of.ensures
+row_in-requires c = laid_plane c.args.opts c.requires c.args.part c.plane_of.ensures
 
 pub overflow_add-result : goal.overflow_add-result
-overflow_add-result c = 
+overflow_add-result c =
     let known : placed c.row_in.result ≡ if_done (refuse (no_row (plane_of c.args.opts c.args.part) c.args.level c.args.plane c.args.y) 19) (run_of (plane_of c.args.opts c.args.part) c.args.level c.args.plane c.args.y) no_run = let a = c.args in
     c.row_in.ensures ∙ ap (λ (q : Layout). if_done (refuse (no_row q a.level a.plane a.y) 19) (run_of q a.level a.plane a.y) no_run) c.plane_of.ensures in
-    let m = c in
-    let w = m in
-    let s = w in
-    let a = s.args in
-    omega (arith, moved-le a.opts a.part a.level a.plane a.y (sym (ap placed m.in-At.is) ∙ known) (ap (λ (p : Part). p.start) w.part_of-own.ensures) s.requires (omega (arith, w.if-part-gt2.false)) refl)
+    let a = c.args in
+    omega (arith, moved-le a.opts a.part a.level a.plane a.y (sym (ap placed c.in-At.is) ∙ known) (ap (λ (p : Part). p.start) c.part_of-own.ensures) c.requires (omega (arith, c.if-part-gt2.false)) refl)
 
 pub returns-in-At : goal.returns-in-At
-returns-in-At c = 
+returns-in-At c =
     let end : c.parts_of-parts.result.length ≡ joined_end c.args.opts = ap (λ (p : Parts). p.length) c.parts_of-parts.ensures in
-    let there : part_no c.args.opts c.args.len c.args.part ≡ 0 = let s = c in
-    let a = s.args in
+    let there : part_no c.args.opts c.args.len c.args.part ≡ 0 = let a = c.args in
     let some : leb 3 a.part ≡ false = lt-leb 3 a.part (omega (arith, c.if-part-gt2.false)) in
-    sym (part_long a.opts a.len a.part s.requires (omega (arith, end, c.if-len-parts.false))) ∙ ap (λ t. refuse t 19) some in
+    sym (part_long a.opts a.len a.part c.requires (omega (arith, end, c.if-len-parts.false))) ∙ ap (λ t. refuse t 19) some in
     let known : placed c.row_in.result ≡ if_done (refuse (no_row (plane_of c.args.opts c.args.part) c.args.level c.args.plane c.args.y) 19) (run_of (plane_of c.args.opts c.args.part) c.args.level c.args.plane c.args.y) no_run = let a = c.args in
     c.row_in.ensures ∙ ap (λ (q : Layout). if_done (refuse (no_row q a.level a.plane a.y) 19) (run_of q a.level a.plane a.y) no_run) c.plane_of.ensures in
-    let m = c in
-    let w = m in
-    let a = w.args in
-    placed_in a.opts a.part a.level a.plane a.y a.len (there) (moved a.opts a.part a.level a.plane a.y (sym (ap placed m.in-At.is) ∙ known) (ap (λ (p : Part). p.start) w.part_of-own.ensures))
+    let a = c.args in
+    placed_in a.opts a.part a.level a.plane a.y a.len (there) (moved a.opts a.part a.level a.plane a.y (sym (ap placed c.in-At.is) ∙ known) (ap (λ (p : Part). p.start) c.part_of-own.ensures))
 
 pub returns-in-Refused : goal.returns-in-Refused
-returns-in-Refused c = 
+returns-in-Refused c =
     let end : c.parts_of-parts.result.length ≡ joined_end c.args.opts = ap (λ (p : Parts). p.length) c.parts_of-parts.ensures in
-    let there : part_no c.args.opts c.args.len c.args.part ≡ 0 = let s = c in
-    let a = s.args in
+    let there : part_no c.args.opts c.args.len c.args.part ≡ 0 = let a = c.args in
     let some : leb 3 a.part ≡ false = lt-leb 3 a.part (omega (arith, c.if-part-gt2.false)) in
-    sym (part_long a.opts a.len a.part s.requires (omega (arith, end, c.if-len-parts.false))) ∙ ap (λ t. refuse t 19) some in
+    sym (part_long a.opts a.len a.part c.requires (omega (arith, end, c.if-len-parts.false))) ∙ ap (λ t. refuse t 19) some in
     let known : placed c.row_in.result ≡ if_done (refuse (no_row (plane_of c.args.opts c.args.part) c.args.level c.args.plane c.args.y) 19) (run_of (plane_of c.args.opts c.args.part) c.args.level c.args.plane c.args.y) no_run = let a = c.args in
     c.row_in.ensures ∙ ap (λ (q : Layout). if_done (refuse (no_row q a.level a.plane a.y) 19) (run_of q a.level a.plane a.y) no_run) c.plane_of.ensures in
-    let w = c in
-    let a = w.args in
+    let a = c.args in
     placed_in a.opts a.part a.level a.plane a.y a.len (there) (refused (refuse (no_row (plane_of a.opts a.part) a.level a.plane a.y) 19) c.in-Refused.f (run_in_of a.opts a.part a.level a.plane a.y) no_run (number_of (sym (ap placed c.in-Refused.is) ∙ known)))

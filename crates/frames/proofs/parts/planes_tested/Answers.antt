@@ -4,7 +4,5 @@ use Rattle.frames.proofs.parts.planes_tested.Goals as goal
 
 pub returns : goal.returns
 unfolding planes_no
-returns c = let second = c in
-    let first = second in
-    rw (c.then_refuse-3.ensures, second.then_refuse-2.ensures, first.then_refuse.ensures)
-    (rw (first.naturals-n.ensures, first.accepted-record.ensures))
+returns c = rw (c.then_refuse-3.ensures, c.then_refuse-2.ensures, c.then_refuse.ensures)
+    (rw (c.naturals-n.ensures, c.accepted-record.ensures))

@@ -4,6 +4,5 @@ use Rattle.layouts.proofs.lent.lent_tested.Goals as goal
 
 pub returns : goal.returns
 unfolding lent_no
-returns c = let rules = c in
-    rw (c.then_refuse-4.ensures, c.then_refuse-3.ensures, c.then_refuse-2.ensures, c.then_refuse.ensures)
-    (rw (rules.scratch_need-room.ensures, rules.spill_need-beyond.ensures, rules.requires.2, rules.source_need-source.ensures))
+returns c = rw (c.then_refuse-4.ensures, c.then_refuse-3.ensures, c.then_refuse-2.ensures, c.then_refuse.ensures)
+    (rw (c.scratch_need-room.ensures, c.spill_need-beyond.ensures, c.requires.2, c.source_need-source.ensures))

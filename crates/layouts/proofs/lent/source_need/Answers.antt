@@ -8,16 +8,14 @@ use Rattle.layouts.proofs.lent.source_need.Goals as goal
 
 pub overflow_mul-result : goal.overflow_mul-result
 overflow_mul-result c =
-    let small : ((c.height-h.result - 1) * c.args.src_pitch ≤ most_side * most_pitch) × (c.width-w.result ≤ most_side) = let s = c in
-    let q = s.args.layout in
-    let a = allowed q s.requires.0 in
-    (prod_le most_side most_pitch (omega (arith, height_le q a 0, c.height-h.ensures)) s.requires.1, omega (arith, width_le q a 0, c.width-w.ensures)) in
+    let small : ((c.height-h.result - 1) * c.args.src_pitch ≤ most_side * most_pitch) × (c.width-w.result ≤ most_side) = let q = c.args.layout in
+    let a = allowed q c.requires.0 in
+    (prod_le most_side most_pitch (omega (arith, height_le q a 0, c.height-h.ensures)) c.requires.1, omega (arith, width_le q a 0, c.width-w.ensures)) in
     omega (arith, small)
 
 pub overflow_add-result : goal.overflow_add-result
 overflow_add-result c =
-    let small : ((c.height-h.result - 1) * c.args.src_pitch ≤ most_side * most_pitch) × (c.width-w.result ≤ most_side) = let s = c in
-    let q = s.args.layout in
-    let a = allowed q s.requires.0 in
-    (prod_le most_side most_pitch (omega (arith, height_le q a 0, c.height-h.ensures)) s.requires.1, omega (arith, width_le q a 0, c.width-w.ensures)) in
+    let small : ((c.height-h.result - 1) * c.args.src_pitch ≤ most_side * most_pitch) × (c.width-w.result ≤ most_side) = let q = c.args.layout in
+    let a = allowed q c.requires.0 in
+    (prod_le most_side most_pitch (omega (arith, height_le q a 0, c.height-h.ensures)) c.requires.1, omega (arith, width_le q a 0, c.width-w.ensures)) in
     omega (arith, small)

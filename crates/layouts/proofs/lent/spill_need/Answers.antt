@@ -6,6 +6,7 @@ use Rattle.layouts.proofs.Layouts.{allowed, height_le}
 use Rattle.layouts.proofs.lent.spill_need.Goals as goal
 
 pub overflow_mul-result : goal.overflow_mul-result
-overflow_mul-result c = let q = c.args.layout in
+overflow_mul-result c =
+    let q = c.args.layout in
     let a = allowed q c.requires in
     rw c.height.ensures (omega (arith, prod_le most_side most_pitch (height_le q a 1) a.most))

@@ -3,4 +3,4 @@ use Rattle.layouts.proofs.Layouts.{shifted_out}
 use Rattle.layouts.proofs.levels.shifted.Goals as goal
 
 pub returns : goal.returns
-returns c = let s = c in shifted_out s.args.n s.args.shift s.ranges.n.fits c.if-shift-lt32.false
+returns c = shifted_out c.args.n c.args.shift c.ranges.n.fits c.if-shift-lt32.false

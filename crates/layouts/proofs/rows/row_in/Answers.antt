@@ -6,7 +6,6 @@ use Rattle.layouts.proofs.Layouts.{allowed, levels_le}
 use Rattle.layouts.proofs.rows.row_in.Goals as goal
 
 pub down-at-requires : goal.down-at-requires
-down-at-requires c = let n = c in
-    let s = n in
-    let levels = ap (λ (x : Naturals). x.levels) n.naturals-n.ensures in
-    (s.requires, omega arith, omega (arith, c.if-n-level.false, levels_le s.args.layout (allowed s.args.layout s.requires)), c.top.ensures)
+down-at-requires c =
+    let levels = ap (λ (x : Naturals). x.levels) c.naturals-n.ensures in
+    (c.requires, omega arith, omega (arith, c.if-n-level.false, levels_le c.args.layout (allowed c.args.layout c.requires)), c.top.ensures)

@@ -5,10 +5,10 @@ use Rattle.lines.proofs.Parted.{before_next, before_end}
 use Rattle.lines.proofs.parting.bytes_before.Goals as goal
 
 pub returns-then-line-at : goal.returns-then-line-at
-returns-then-line-at c = let l = c in let a = l.args in (omega (arith, rw (before_next a.b a.line.now l.loop-at.at (omega arith), eq-eqb (get_or a.line.now l.loop-at.at 0) a.b c.if-line-at.true) at l.loop-at.invariant.0), omega arith)
+returns-then-line-at c = let a = c.args in (omega (arith, rw (before_next a.b a.line.now c.loop-at.at (omega arith), eq-eqb (get_or a.line.now c.loop-at.at 0) a.b c.if-line-at.true) at c.loop-at.invariant.0), omega arith)
 
 pub loop-at-preserved : goal.loop-at-preserved
-loop-at-preserved c = let l = c in let a = l.args in (omega (arith, rw (before_next a.b a.line.now l.loop-at.at (omega arith), ne_eqb (get_or a.line.now l.loop-at.at 0) a.b c.if-line-at.false) at l.loop-at.invariant.0), omega arith)
+loop-at-preserved c = let a = c.args in (omega (arith, rw (before_next a.b a.line.now c.loop-at.at (omega arith), ne_eqb (get_or a.line.now c.loop-at.at 0) a.b c.if-line-at.false) at c.loop-at.invariant.0), omega arith)
 
 pub returns : goal.returns
-returns c = let l = c in let a = l.args in (omega (arith, l.loop-at.invariant.0, before_end a.b a.line.now l.loop-at.at (omega arith)), omega arith)
+returns c = let a = c.args in (omega (arith, c.loop-at.invariant.0, before_end a.b a.line.now c.loop-at.at (omega arith)), omega arith)

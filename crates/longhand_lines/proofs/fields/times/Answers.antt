@@ -6,10 +6,10 @@ use Rattle.longhand_lines.proofs.Parts.{times_next, times_end}
 use Rattle.longhand_lines.proofs.fields.times.Goals as goal
 
 pub loop-i-preserved : goal.loop-i-preserved
-loop-i-preserved c = let l = c in
-    let a = l.args in
-    let here = eqb (get_or a.line.now l.loop-i.i 0) a.b in
-    (omega (arith, l.loop-i.invariant.0, times_next a.b a.line.now l.loop-i.i (omega arith), is_bit_lem here), omega (arith, bit_small here), omega arith)
+loop-i-preserved c =
+    let a = c.args in
+    let here = eqb (get_or a.line.now c.loop-i.i 0) a.b in
+    (omega (arith, c.loop-i.invariant.0, times_next a.b a.line.now c.loop-i.i (omega arith), is_bit_lem here), omega (arith, bit_small here), omega arith)
 
 pub returns : goal.returns
-returns c = let l = c in let a = l.args in omega (arith, l.loop-i.invariant.0, times_end a.b a.line.now l.loop-i.i (omega arith))
+returns c = let a = c.args in omega (arith, c.loop-i.invariant.0, times_end a.b a.line.now c.loop-i.i (omega arith))

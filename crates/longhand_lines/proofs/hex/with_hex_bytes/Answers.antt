@@ -13,8 +13,8 @@ pub loop-i-init : goal.loop-i-init
 loop-i-init c = (said bytes_none (nothing c.args.text), omega arith)
 
 pub loop-i-preserved : goal.loop-i-preserved
-loop-i-preserved c = let l = c in
-    let bytes = l.args.bytes.now in
-    let b = get_or bytes l.loop-i.i 0 in
-    let p = wider (2 * (l.loop-i.i + 1)) (omega arith) (c.with_hex-next.ensures after l.loop-i.invariant.0) in
-    (said (sym (bytes_more (take l.loop-i.i bytes) b) ∙ ap hex_text (sym (take-suc bytes l.loop-i.i 0 (omega arith)) ∙ ap (λ (n : ℕ). take n bytes) (sym (add-one l.loop-i.i)))) p, omega arith)
+loop-i-preserved c =
+    let bytes = c.args.bytes.now in
+    let b = get_or bytes c.loop-i.i 0 in
+    let p = wider (2 * (c.loop-i.i + 1)) (omega arith) (c.with_hex-next.ensures after c.loop-i.invariant.0) in
+    (said (sym (bytes_more (take c.loop-i.i bytes) b) ∙ ap hex_text (sym (take-suc bytes c.loop-i.i 0 (omega arith)) ∙ ap (λ (n : ℕ). take n bytes) (sym (add-one c.loop-i.i)))) p, omega arith)

@@ -9,18 +9,12 @@ pub returns : goal.returns
 unfolding opts_text
 returns c =
     let fields : FieldsFit c.args.opts = search rules in
-    let down = c in
-    let flags = down in
-    let gpu = flags in
-    let pel = gpu in
-    let height = pel in
-    let width = height in
-    let r = width.args.opts in
+    let r = c.args.opts in
     let f = fields in
     int_said r.scale_up f.up c.with_int-6.ensures
-    after int_said r.scale_down f.down down.with_int-5.ensures
-    after flags.with_flags.ensures
-    after int_said r.gpu f.gpu gpu.with_int-4.ensures
-    after int_said r.pel f.pel pel.with_int-3.ensures
-    after int_said r.height f.height height.with_int-2.ensures
-    after int_said r.width f.width width.with_int.ensures
+    after int_said r.scale_down f.down c.with_int-5.ensures
+    after c.with_flags.ensures
+    after int_said r.gpu f.gpu c.with_int-4.ensures
+    after int_said r.pel f.pel c.with_int-3.ensures
+    after int_said r.height f.height c.with_int-2.ensures
+    after int_said r.width f.width c.with_int.ensures

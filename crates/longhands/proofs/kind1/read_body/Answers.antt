@@ -24,14 +24,12 @@ counted b = but_levels_accepted (kind1_record b) refl
 
 pub returns-then-good : goal.returns-then-good
 returns-then-good c =
-    let good : (c.accepted_but_levels.result && ltb (get_or c.args.body.now 6 0) 8) ≡ kind1_good c.args.body.now = let a = c in
-    rw (number_of_1 a.args.body.now 6 (omega (arith, a.requires)), c.accepted_but_levels.ensures, c.spelled-opts.ensures, counted a.args.body.now) in
+    let good : (c.accepted_but_levels.result && ltb (get_or c.args.body.now 6 0) 8) ≡ kind1_good c.args.body.now = rw (number_of_1 c.args.body.now 6 (omega (arith, c.requires)), c.accepted_but_levels.ensures, c.spelled-opts.ensures, counted c.args.body.now) in
     let l = c.args.body.now in
     ap (answer 0) c.spelled-opts.ensures ∙ given (refuse (not (kind1_good l)) 18) (kind1_record l) no_record (rw (← good, c.if-good.true))
 
 pub returns : goal.returns
 returns c =
-    let good : (c.accepted_but_levels.result && ltb (get_or c.args.body.now 6 0) 8) ≡ kind1_good c.args.body.now = let a = c in
-    rw (number_of_1 a.args.body.now 6 (omega (arith, a.requires)), c.accepted_but_levels.ensures, c.spelled-opts.ensures, counted a.args.body.now) in
+    let good : (c.accepted_but_levels.result && ltb (get_or c.args.body.now 6 0) 8) ≡ kind1_good c.args.body.now = rw (number_of_1 c.args.body.now 6 (omega (arith, c.requires)), c.accepted_but_levels.ensures, c.spelled-opts.ensures, counted c.args.body.now) in
     let l = c.args.body.now in
     refused (refuse (not (kind1_good l)) 18) (OfLonghand Contents) (kind1_record l) no_record (rw (← good, c.if-good.false))

@@ -21,18 +21,12 @@ lowest_flag n = ap (λ (m : ℕ). eqb (m % 2) 1) (whole n)
 
 pub returns : goal.returns
 unfolding kind1_record
-returns c = let up = c in
-    let down = up in
-    let gpu = down in
-    let pel = gpu in
-    let height = pel in
-    let width = height in
-    let a = width in
-    let l = a.args.body.now in
-    let w = width.number_2-width in
-    let h = height.number_2-height in
+returns c =
+    let l = c.args.body.now in
+    let w = c.number_2-width in
+    let h = c.number_2-height in
     let wide = to_z_pos w32 {n = w.result} (omega (arith, w.ensures.1)) in
     let high = to_z_pos w32 {n = h.result} (omega (arith, h.ensures.1)) in
-    rw (to_z_pos w32 {n = get_or l 4 0} (omega (arith, pel.shared_slice_known-3-1.given 4)), to_z_pos w32 {n = get_or l 5 0} (omega (arith, gpu.shared_slice_known-4-1.given 5)), wide, high)
-    (rw (same up.from_bits-2.result (search rules), same up.from_bits.result (search rules), same c.levels_of.result (search rules))
-    (rw (up.from_bits-2.ensures, up.number_4-2.ensures, down.from_bits.ensures, down.number_4.ensures, c.levels_of.ensures, lowest_flag (get_or l 6 0), number_of_1 l 4 (omega (arith, a.requires)), number_of_1 l 5 (omega (arith, a.requires)), number_of_1 l 6 (omega (arith, a.requires))) (rw (wide, high, w.ensures.0, h.ensures.0))))
+    rw (to_z_pos w32 {n = get_or l 4 0} (omega (arith, c.shared_slice_known-3-1.given 4)), to_z_pos w32 {n = get_or l 5 0} (omega (arith, c.shared_slice_known-4-1.given 5)), wide, high)
+    (rw (same c.from_bits-2.result (search rules), same c.from_bits.result (search rules), same c.levels_of.result (search rules))
+    (rw (c.from_bits-2.ensures, c.number_4-2.ensures, c.from_bits.ensures, c.number_4.ensures, c.levels_of.ensures, lowest_flag (get_or l 6 0), number_of_1 l 4 (omega (arith, c.requires)), number_of_1 l 5 (omega (arith, c.requires)), number_of_1 l 6 (omega (arith, c.requires))) (rw (wide, high, w.ensures.0, h.ensures.0))))

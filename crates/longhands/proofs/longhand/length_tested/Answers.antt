@@ -10,7 +10,6 @@ returns-then-bytes-lt-LENGTH c = rw (lt-ltb (length c.args.bytes.now) 4 c.if-byt
 
 pub returns : goal.returns
 unfolding length_no
-returns c = let t1 = c in
-    let n = t1 in
-    let l = n.args.bytes.now in
-    rw (c.then_refuse-2.ensures, t1.then_refuse.ensures, le-ltb (length l) 4 n.if-bytes-lt-LENGTH.false, n.number_4-length.ensures)
+returns c =
+    let l = c.args.bytes.now in
+    rw (c.then_refuse-2.ensures, c.then_refuse.ensures, le-ltb (length l) 4 c.if-bytes-lt-LENGTH.false, c.number_4-length.ensures)

@@ -8,9 +8,7 @@ pub number_2-requires : goal.number_2-requires
 number_2-requires c = let w = whole c.args.bytes.now c.requires in omega (arith, w.own, w.kind)
 
 pub number_4-requires : goal.number_4-requires
-number_4-requires c = let a = c in (whole a.args.bytes.now a.requires).field
+number_4-requires c = (whole c.args.bytes.now c.requires).field
 
 pub returns : goal.returns
-returns c = let k = c in
-    let a = k in
-    rw c.number_4.ensures (kind_unknown a.args.bytes.now a.requires (λ e. c.if-number_2-eq-KIND_1.false (k.number_2.ensures.0 ∙ e)))
+returns c = rw c.number_4.ensures (kind_unknown c.args.bytes.now c.requires (λ e. c.if-number_2-eq-KIND_1.false (c.number_2.ensures.0 ∙ e)))

@@ -11,7 +11,8 @@ pub number_4-length-requires : goal.number_4-length-requires
 number_4-length-requires c = (whole c.args.bytes.now c.requires.0).field
 
 pub returns-then-length-ne-LENGTH : goal.returns-then-length-ne-LENGTH
-returns-then-length-ne-LENGTH c = let n = c in
+returns-then-length-ne-LENGTH c =
+    let n = c in
     let a = n in
     length_other a.args.bytes.now a.requires.0 a.requires.1 (λ e. c.if-length-ne-LENGTH.true (n.number_4-length.ensures ∙ e))
 
@@ -29,7 +30,7 @@ returns-in-Accepted c =
     let n = here in
     let a = n in
     rw n.number_4-length.ensures
-    (body_read a.args.bytes.now a.requires.0 a.requires.1 (sym n.number_4-length.ensures ∙ here.if-length-ne-LENGTH.false) (body) (c.in-Accepted.ensures))
+    (body_read a.args.bytes.now a.requires.0 a.requires.1 (sym n.number_4-length.ensures ∙ here.if-length-ne-LENGTH.false) (body) c.in-Accepted.ensures)
 
 pub returns-in-Refused : goal.returns-in-Refused
 returns-in-Refused c =
@@ -41,4 +42,4 @@ returns-in-Refused c =
     let here = read in
     let n = here in
     let a = n in
-    body_refused a.args.bytes.now c.in-Refused.f a.requires.0 a.requires.1 (sym n.number_4-length.ensures ∙ here.if-length-ne-LENGTH.false) (body) (c.in-Refused.ensures)
+    body_refused a.args.bytes.now c.in-Refused.f a.requires.0 a.requires.1 (sym n.number_4-length.ensures ∙ here.if-length-ne-LENGTH.false) (body) c.in-Refused.ensures

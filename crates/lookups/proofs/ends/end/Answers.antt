@@ -13,18 +13,19 @@ use Rattle.stored.proofs.Exact.{passed, passed_long, passed_view, passed_count, 
 use Rattle.lookups.proofs.ends.end.Goals as goal
 
 pub bounds-layout-0 : goal.bounds-layout-0
-bounds-layout-0 c = 
+bounds-layout-0 c =
     let long : length c.args.layout.now ≡ most_numbers = passed_long _ _ (passed _ _ c.requires) in
     omega (arith, long)
 
 pub returns-then-layout-eq0 : goal.returns-then-layout-eq0
-returns-then-layout-eq0 c = let s = c in
+returns-then-layout-eq0 c =
+    let s = c in
     let q = view_of s.args.opts s.args.layout.now in
     let none : levels_of q ≡ 0 = sym (passed_count _ _ (passed _ _ s.requires)) ∙ c.if-layout-eq0.true in
     sym (ap (offset_at q) none ∙ offset_first q)
 
 pub overflow_cast-last : goal.overflow_cast-last
-overflow_cast-last c = 
+overflow_cast-last c =
     let some : (get_or c.args.layout.now 0 0 ≡ levels_of (view_of c.args.opts c.args.layout.now)) × (1 ≤ levels_of (view_of c.args.opts c.args.layout.now)) × (levels_of (view_of c.args.opts c.args.layout.now) ≤ most_levels) = let s = c in
     let q = view_of s.args.opts s.args.layout.now in
     let p = passed s.args.opts s.args.layout.now s.requires in
@@ -33,7 +34,7 @@ overflow_cast-last c =
     omega (arith, some)
 
 pub region_in-r-requires : goal.region_in-r-requires
-region_in-r-requires c = 
+region_in-r-requires c =
     let long : length c.args.layout.now ≡ most_numbers = passed_long _ _ (passed _ _ c.requires) in
     let some : (get_or c.args.layout.now 0 0 ≡ levels_of (view_of c.args.opts c.args.layout.now)) × (1 ≤ levels_of (view_of c.args.opts c.args.layout.now)) × (levels_of (view_of c.args.opts c.args.layout.now) ≤ most_levels) = let s = c in
     let q = view_of s.args.opts s.args.layout.now in
@@ -46,7 +47,7 @@ pub view-requires : goal.view-requires
 view-requires c = passed_view _ _ (passed _ _ c.requires)
 
 pub overflow_mul-result : goal.overflow_mul-result
-overflow_mul-result c = 
+overflow_mul-result c =
     let some : (get_or c.args.layout.now 0 0 ≡ levels_of (view_of c.args.opts c.args.layout.now)) × (1 ≤ levels_of (view_of c.args.opts c.args.layout.now)) × (levels_of (view_of c.args.opts c.args.layout.now) ≤ most_levels) = let s = c in
     let q = view_of s.args.opts s.args.layout.now in
     let p = passed s.args.opts s.args.layout.now s.requires in
@@ -60,12 +61,12 @@ overflow_mul-result c =
     omega (arith, planes, planes_le q (allowed q (passed _ _ s.requires).layout) (get_or s.args.layout.now 0 0 - 1))
 
 pub bounds-layout-3 : goal.bounds-layout-3
-bounds-layout-3 c = 
+bounds-layout-3 c =
     let long : length c.args.layout.now ≡ most_numbers = passed_long _ _ (passed _ _ c.requires) in
     omega (arith, long)
 
 pub overflow_mul-result-2 : goal.overflow_mul-result-2
-overflow_mul-result-2 c = 
+overflow_mul-result-2 c =
     let some : (get_or c.args.layout.now 0 0 ≡ levels_of (view_of c.args.opts c.args.layout.now)) × (1 ≤ levels_of (view_of c.args.opts c.args.layout.now)) × (levels_of (view_of c.args.opts c.args.layout.now) ≤ most_levels) = let s = c in
     let q = view_of s.args.opts s.args.layout.now in
     let p = passed s.args.opts s.args.layout.now s.requires in
@@ -80,7 +81,7 @@ overflow_mul-result-2 c =
     omega (arith, bytes, bytes_le q (allowed q (passed _ _ s.requires).layout) (get_or s.args.layout.now 0 0 - 1))
 
 pub overflow_add-result : goal.overflow_add-result
-overflow_add-result c = 
+overflow_add-result c =
     let some : (get_or c.args.layout.now 0 0 ≡ levels_of (view_of c.args.opts c.args.layout.now)) × (1 ≤ levels_of (view_of c.args.opts c.args.layout.now)) × (levels_of (view_of c.args.opts c.args.layout.now) ≤ most_levels) = let s = c in
     let q = view_of s.args.opts s.args.layout.now in
     let p = passed s.args.opts s.args.layout.now s.requires in
@@ -98,7 +99,7 @@ overflow_add-result c =
     omega (arith, bytes, bytes_le q a m, ap (λ (x : Region). x.offset) (last), offset_le q a m (omega (arith, n)))
 
 pub returns : goal.returns
-returns c = 
+returns c =
     let some : (get_or c.args.layout.now 0 0 ≡ levels_of (view_of c.args.opts c.args.layout.now)) × (1 ≤ levels_of (view_of c.args.opts c.args.layout.now)) × (levels_of (view_of c.args.opts c.args.layout.now) ≤ most_levels) = let s = c in
     let q = view_of s.args.opts s.args.layout.now in
     let p = passed s.args.opts s.args.layout.now s.requires in

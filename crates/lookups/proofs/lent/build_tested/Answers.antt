@@ -10,12 +10,12 @@ use Rattle.stored.specs.Layout.{view_of}
 use Rattle.stored.specs.Refusals.{stored_no}
 use Rattle.stored.proofs.Exact.{passed, passed_view}
 use Rattle.lookups.specs.Refusals.{stored_build_no}
-use borrow.Author.Rules.{rules}
 use Rattle.lookups.proofs.lent.build_tested.Goals as goal
 
 pub returns-in_default : goal.returns-in_default
 unfolding stored_build_no
-returns-in_default c = let s = c.args in
+returns-in_default c =
+    let s = c.args in
     let f = c.tested-t.ensures in
     let n = stored_no s.opts s.layout.now in
     let q = view_of s.opts s.layout.now in
@@ -25,19 +25,19 @@ returns-in_default c = let s = c.args in
     f ∙ first ∙ then_kept c.in_default.field-0 (n then second) (lent_no q s.src s.src_pitch s.frame s.spill s.scratch) (e ∙ first)
 
 pub view-q-requires : goal.view-q-requires
-view-q-requires c = 
+view-q-requires c =
     let fine : stored_no c.args.opts c.args.layout.now ≡ 0 = sym c.tested-t.ensures ∙ ap tested c.in-Fine.is in
     passed_view _ _ (passed _ _ (fine))
 
 pub returns-then-bad_pitch : goal.returns-then-bad_pitch
 unfolding stored_build_no
-returns-then-bad_pitch c = 
+returns-then-bad_pitch c =
     let fine : stored_no c.args.opts c.args.layout.now ≡ 0 = sym c.tested-t.ensures ∙ ap tested c.in-Fine.is in
     let bad : bad_pitch c.args.src_pitch (width_at (view_of c.args.opts c.args.layout.now) 0) ≡ c.bad_pitch.result = sym (c.bad_pitch.ensures ∙ ap (bad_pitch c.args.src_pitch) (c.width.ensures ∙ ap (λ (q : Layout). width_at q 0) c.view-q.ensures)) in
     rw (fine, bad ∙ c.if-bad_pitch.true) refl
 
 pub lent_tested-requires : goal.lent_tested-requires
-lent_tested-requires c = 
+lent_tested-requires c =
     let fine : stored_no c.args.opts c.args.layout.now ≡ 0 = sym c.tested-t.ensures ∙ ap tested c.in-Fine.is in
     let bad : bad_pitch c.args.src_pitch (width_at (view_of c.args.opts c.args.layout.now) 0) ≡ c.bad_pitch.result = sym (c.bad_pitch.ensures ∙ ap (bad_pitch c.args.src_pitch) (c.width.ensures ∙ ap (λ (q : Layout). width_at q 0) c.view-q.ensures)) in
     let s = c.args in
@@ -45,7 +45,7 @@ lent_tested-requires c =
 
 pub returns : goal.returns
 unfolding stored_build_no
-returns c = 
+returns c =
     let fine : stored_no c.args.opts c.args.layout.now ≡ 0 = sym c.tested-t.ensures ∙ ap tested c.in-Fine.is in
     let bad : bad_pitch c.args.src_pitch (width_at (view_of c.args.opts c.args.layout.now) 0) ≡ c.bad_pitch.result = sym (c.bad_pitch.ensures ∙ ap (bad_pitch c.args.src_pitch) (c.width.ensures ∙ ap (λ (q : Layout). width_at q 0) c.view-q.ensures)) in
     let s = c.args in

@@ -1,16 +1,9 @@
 -- `clear_levels` meets its contract. The loop has cleared the levels passed, and carries what is reached at the last of them. Assumes nothing.
-use mathlib.Core.Path.{◌≡◌, ap, ◌∙◌}
-use Prim.Native.Nat.{ℕ, ◌+◌, ◌-◌, ◌≤◌, ◌<◌}
-use native.Mathlib.Omega.{arith}
-use Rattle.settings.specs.declared.super_opts.Naturals.{Naturals}
-use Rattle.settings.specs.Limits.{most_levels}
-use Rattle.layouts.specs.declared.descent.Descent.{Descent}
-use Rattle.layouts.specs.Storing.{steps}
-use Rattle.layouts.specs.Layout.{levels_of}
+use mathlib.Core.Path.{◌≡◌}
+use Prim.Native.Nat.{◌+◌, ◌-◌, ◌≤◌}
 use Rattle.layouts.specs.Descent.{reached}
-use Rattle.layouts.specs.Margins.{clear_level, cleared}
-use Rattle.layouts.proofs.Loops.{Walked, walked_none, walked_next, walked_whole, next_less}
-use Rattle.layouts.proofs.Layouts.{allowed, levels_le}
+use Rattle.layouts.specs.Margins.{clear_level}
+use Rattle.layouts.proofs.Loops.{Walked}
 use Rattle.lookups.proofs.margins.clear_levels.Given as goal
 
 abbrev pub invariant-loop-level : goal.invariant-loop-level

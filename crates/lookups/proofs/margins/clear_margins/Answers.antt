@@ -14,17 +14,17 @@ use Rattle.stored.specs.Refusals.{stored_no}
 use Rattle.stored.proofs.Exact.{passed, passed_view}
 use Rattle.lookups.specs.Refusals.{frame_no}
 use Rattle.lookups.proofs.Numbers.{frame_kept, frame_short, frame_long}
-use borrow.Author.Rules.{rules}
 use Rattle.lookups.proofs.margins.clear_margins.Goals as goal
 
 pub returns-in_default : goal.returns-in_default
-returns-in_default c = let s = c.args in
+returns-in_default c =
+    let s = c.args in
     let f = s.frame.now in
     let e = c.in_default.ensures in
     rw c.in_default.is (refused (frame_no s.opts s.layout.now (length f)) c.in_default.field-0 (cleared (view_of s.opts s.layout.now) f) f (frame_kept s.opts s.layout.now (length f) c.in_default.field-0 e))
 
 pub returns-then-frame-end : goal.returns-then-frame-end
-returns-then-frame-end c = 
+returns-then-frame-end c =
     let fine : stored_no c.args.opts c.args.layout.now ≡ 0 = sym c.tested-t.ensures ∙ ap tested c.in-Fine.is in
     let ends : c.end.result ≡ written_end (view_of c.args.opts c.args.layout.now) = c.end.ensures in
     let s = c.args in
@@ -32,18 +32,18 @@ returns-then-frame-end c =
     refused (frame_no s.opts s.layout.now (length f)) (Lent Frame) (cleared (view_of s.opts s.layout.now) f) f (frame_short s.opts s.layout.now (length f) (fine) (omega (arith, ends, c.if-frame-end.true)))
 
 pub view-requires : goal.view-requires
-view-requires c = 
+view-requires c =
     let fine : stored_no c.args.opts c.args.layout.now ≡ 0 = sym c.tested-t.ensures ∙ ap tested c.in-Fine.is in
     passed_view _ _ (passed _ _ (fine))
 
 pub clear_levels-requires : goal.clear_levels-requires
-clear_levels-requires c = 
+clear_levels-requires c =
     let fine : stored_no c.args.opts c.args.layout.now ≡ 0 = sym c.tested-t.ensures ∙ ap tested c.in-Fine.is in
     let ends : c.end.result ≡ written_end (view_of c.args.opts c.args.layout.now) = c.end.ensures in
     rw c.view.ensures ((passed _ _ (fine)).layout, omega (arith, ends, c.if-frame-end.false))
 
 pub returns : goal.returns
-returns c = 
+returns c =
     let fine : stored_no c.args.opts c.args.layout.now ≡ 0 = sym c.tested-t.ensures ∙ ap tested c.in-Fine.is in
     let ends : c.end.result ≡ written_end (view_of c.args.opts c.args.layout.now) = c.end.ensures in
     let s = c.args in

@@ -23,11 +23,10 @@ use Rattle.stored.proofs.Exact.{Found, passed, passed_long, passed_view, passed_
 use Rattle.lookups.specs.Refusals.{frame_no, no_plane, level_plane_no}
 use Rattle.lookups.specs.Answers.{level_plane, no_level_plane}
 use Rattle.lookups.proofs.Numbers.{plane_kept, frame_short, frame_long, plane_last}
-use borrow.Author.Rules.{rules}
 use Rattle.lookups.proofs.rows.plane_within.Goals as goal
 
 pub returns-then-len-end : goal.returns-then-len-end
-returns-then-len-end c = 
+returns-then-len-end c =
     let ends : c.end.result ≡ written_end (view_of c.args.opts c.args.layout.now) = c.end.ensures in
     let s = c in
     let a = s.args in
@@ -38,7 +37,7 @@ pub bounds-layout-0 : goal.bounds-layout-0
 bounds-layout-0 c = omega (arith, passed_long _ _ (passed _ _ c.requires))
 
 pub returns-then-layout-level : goal.returns-then-layout-level
-returns-then-layout-level c = 
+returns-then-layout-level c =
     let ends : c.end.result ≡ written_end (view_of c.args.opts c.args.layout.now) = c.end.ensures in
     let long : frame_no c.args.opts c.args.layout.now c.args.len ≡ 0 = let s = c in frame_long s.args.opts s.args.layout.now s.args.len s.requires (omega (arith, ends, c.if-len-end.false)) in
     let s = c in
@@ -51,7 +50,7 @@ pub view-requires : goal.view-requires
 view-requires c = passed_view _ _ (passed _ _ c.requires)
 
 pub returns-then-stored-plane : goal.returns-then-stored-plane
-returns-then-stored-plane c = 
+returns-then-stored-plane c =
     let ends : c.end.result ≡ written_end (view_of c.args.opts c.args.layout.now) = c.end.ensures in
     let long : frame_no c.args.opts c.args.layout.now c.args.len ≡ 0 = let s = c in frame_long s.args.opts s.args.layout.now s.args.len s.requires (omega (arith, ends, c.if-len-end.false)) in
     let planes : c.stored.result ≡ stored_at (view_of c.args.opts c.args.layout.now) c.args.level = c.stored.ensures ∙ ap (λ (q : Layout). stored_at q c.args.level) c.view.ensures in
@@ -61,12 +60,12 @@ returns-then-stored-plane c =
     refused (level_plane_no a.opts a.layout.now a.len a.level a.plane) NoRow (level_plane q a.level a.plane) no_level_plane (rw (past, or_yes (leb (levels_of q) a.level)) at (plane_last a.opts a.layout.now a.len a.level a.plane (long)))
 
 pub region_in-r-requires : goal.region_in-r-requires
-region_in-r-requires c = 
+region_in-r-requires c =
     let here : Found c.args.opts c.args.layout.now c.args.level = let s = c in found s.args.opts s.args.layout.now s.args.level (passed _ _ s.requires) (omega (arith, c.if-layout-level.false)) in
     ((here).few, passed_long _ _ (passed _ _ c.requires))
 
 pub overflow_mul-result : goal.overflow_mul-result
-overflow_mul-result c = 
+overflow_mul-result c =
     let planes : c.stored.result ≡ stored_at (view_of c.args.opts c.args.layout.now) c.args.level = c.stored.ensures ∙ ap (λ (q : Layout). stored_at q c.args.level) c.view.ensures in
     let stored_there : c.args.plane < stored_at (view_of c.args.opts c.args.layout.now) c.args.level = omega (arith, planes, c.if-stored-plane.false) in
     let here : Found c.args.opts c.args.layout.now c.args.level = let s = c in found s.args.opts s.args.layout.now s.args.level (passed _ _ s.requires) (omega (arith, c.if-layout-level.false)) in
@@ -81,7 +80,7 @@ pub bounds-layout-3 : goal.bounds-layout-3
 bounds-layout-3 c = omega (arith, passed_long _ _ (passed _ _ c.requires))
 
 pub overflow_mul-result-2 : goal.overflow_mul-result-2
-overflow_mul-result-2 c = 
+overflow_mul-result-2 c =
     let planes : c.stored.result ≡ stored_at (view_of c.args.opts c.args.layout.now) c.args.level = c.stored.ensures ∙ ap (λ (q : Layout). stored_at q c.args.level) c.view.ensures in
     let stored_there : c.args.plane < stored_at (view_of c.args.opts c.args.layout.now) c.args.level = omega (arith, planes, c.if-stored-plane.false) in
     let here : Found c.args.opts c.args.layout.now c.args.level = let s = c in found s.args.opts s.args.layout.now s.args.level (passed _ _ s.requires) (omega (arith, c.if-layout-level.false)) in
@@ -94,7 +93,7 @@ overflow_mul-result-2 c =
     omega (arith, bytes)
 
 pub overflow_add-result : goal.overflow_add-result
-overflow_add-result c = 
+overflow_add-result c =
     let here : Found c.args.opts c.args.layout.now c.args.level = let s = c in found s.args.opts s.args.layout.now s.args.level (passed _ _ s.requires) (omega (arith, c.if-layout-level.false)) in
     let region : c.region_in-r.result ≡ region_at (view_of c.args.opts c.args.layout.now) c.args.level = c.region_in-r.ensures ∙ (here).region in
     let planes : c.stored.result ≡ stored_at (view_of c.args.opts c.args.layout.now) c.args.level = c.stored.ensures ∙ ap (λ (q : Layout). stored_at q c.args.level) c.view.ensures in
@@ -113,7 +112,7 @@ pub bounds-layout-3-2 : goal.bounds-layout-3-2
 bounds-layout-3-2 c = omega (arith, passed_long _ _ (passed _ _ c.requires))
 
 pub returns : goal.returns
-returns c = 
+returns c =
     let ends : c.end.result ≡ written_end (view_of c.args.opts c.args.layout.now) = c.end.ensures in
     let long : frame_no c.args.opts c.args.layout.now c.args.len ≡ 0 = let s = c in frame_long s.args.opts s.args.layout.now s.args.len s.requires (omega (arith, ends, c.if-len-end.false)) in
     let here : Found c.args.opts c.args.layout.now c.args.level = let s = c in found s.args.opts s.args.layout.now s.args.level (passed _ _ s.requires) (omega (arith, c.if-layout-level.false)) in

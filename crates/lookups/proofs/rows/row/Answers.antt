@@ -15,7 +15,6 @@ use Rattle.stored.specs.Layout.{view_of}
 use Rattle.lookups.specs.Refusals.{row_no}
 use Rattle.lookups.specs.Answers.{place_answer, row_part, row_from}
 use Rattle.lookups.proofs.Numbers.{rowed}
-use borrow.Author.Rules.{rules}
 use Rattle.lookups.proofs.rows.row.Goals as goal
 
 -- the bytes and the place of a run that is there, or isn't
@@ -42,7 +41,8 @@ pub hand_out-requires : goal.hand_out-requires
 hand_out-requires c = let s = c.args in rw c.row_place-at.ensures (ends s.opts s.layout.now s.level s.plane s.y (length s.frame.now))
 
 pub returns : goal.returns
-returns c = let s = c.args in
+returns c =
+    let s = c.args in
     let e = c.row_place-at.ensures in (
       c.hand_out.ensures.0 ∙ ap (λ (a : Answer Run). take a.value.length (drop a.value.offset s.frame.now)) e ∙ row_bytes s.opts s.layout.now s.level s.plane s.y s.frame.now,
       c.hand_out.ensures.1 ∙ ap (λ (a : Answer Run). part_at s.frame a.value.offset) e ∙ ap (part_at s.frame) (row_from_lem s.opts s.layout.now s.level s.plane s.y (length s.frame.now)),

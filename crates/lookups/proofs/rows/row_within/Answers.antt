@@ -21,7 +21,7 @@ use Rattle.lookups.proofs.Numbers.{row_kept, frame_short, frame_long, row_last}
 use Rattle.lookups.proofs.rows.row_within.Goals as goal
 
 pub returns-then-len-end : goal.returns-then-len-end
-returns-then-len-end c = 
+returns-then-len-end c =
     let ends : c.end.result ≡ written_end (view_of c.args.opts c.args.layout.now) = c.end.ensures in
     let s = c in
     let a = s.args in
@@ -32,7 +32,7 @@ pub bounds-layout-0 : goal.bounds-layout-0
 bounds-layout-0 c = omega (arith, passed_long _ _ (passed _ _ c.requires))
 
 pub returns-then-layout-level : goal.returns-then-layout-level
-returns-then-layout-level c = 
+returns-then-layout-level c =
     let ends : c.end.result ≡ written_end (view_of c.args.opts c.args.layout.now) = c.end.ensures in
     let long : frame_no c.args.opts c.args.layout.now c.args.len ≡ 0 = let s = c in frame_long s.args.opts s.args.layout.now s.args.len s.requires (omega (arith, ends, c.if-len-end.false)) in
     let s = c in
@@ -42,7 +42,7 @@ returns-then-layout-level c =
     refused (row_no a.opts a.layout.now a.len a.level a.plane a.y) NoRow (run_of q a.level a.plane a.y) no_run (rw past at (row_last a.opts a.layout.now a.len a.level a.plane a.y (long)))
 
 pub region_in-requires : goal.region_in-requires
-region_in-requires c = 
+region_in-requires c =
     let here : Found c.args.opts c.args.layout.now c.args.level = let s = c in found s.args.opts s.args.layout.now s.args.level (passed _ _ s.requires) (omega (arith, c.if-layout-level.false)) in
     ((here).few, passed_long _ _ (passed _ _ c.requires))
 
@@ -50,13 +50,13 @@ pub view-requires : goal.view-requires
 view-requires c = passed_view _ _ (passed _ _ c.requires)
 
 pub placed_at-requires : goal.placed_at-requires
-placed_at-requires c = 
+placed_at-requires c =
     let here : Found c.args.opts c.args.layout.now c.args.level = let s = c in found s.args.opts s.args.layout.now s.args.level (passed _ _ s.requires) (omega (arith, c.if-layout-level.false)) in
     let h = here in
     rw c.view.ensures ((passed _ _ c.requires).layout, h.there, c.region_in.ensures ∙ h.region)
 
 pub returns : goal.returns
-returns c = 
+returns c =
     let ends : c.end.result ≡ written_end (view_of c.args.opts c.args.layout.now) = c.end.ensures in
     let long : frame_no c.args.opts c.args.layout.now c.args.len ≡ 0 = let s = c in frame_long s.args.opts s.args.layout.now s.args.len s.requires (omega (arith, ends, c.if-len-end.false)) in
     let a = c.args in

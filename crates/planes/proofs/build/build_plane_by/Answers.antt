@@ -1,23 +1,18 @@
 -- `build_plane_by` meets its contract. Assumes nothing.
 use mathlib.Core.Path.{◌≡◌, sym, ap, ◌∙◌}
-use lib.ListN.{length, replicate}
-use borrow.Author.Rules.{rules}
-use Rattle.settings.specs.Answers.{answer, tested}
-use Rattle.settings.proofs.Known.{given, refused}
-use Rattle.layouts.specs.declared.layout.Layout.{Layout}
-use Rattle.stored.specs.Layout.{view_of}
+use Rattle.settings.specs.Answers.{tested}
 use Rattle.stored.proofs.Exact.{passed_view, passed as fine}
 use Rattle.lookups.proofs.Numbers.{build_stored}
-use Rattle.planes.specs.Build.{frame_by, plane_no}
-use Rattle.planes.proofs.Whole.{ready_stored, lent_zeroed}
+use Rattle.planes.specs.Build.{plane_no}
+use Rattle.planes.proofs.Whole.{ready_stored}
 use Rattle.planes.proofs.build.build_plane_by.Goals as goal
 
 pub view-q-requires : goal.view-q-requires
-view-q-requires c = 
+view-q-requires c =
     let passed : plane_no c.args.opts c.args.layout.now c.args.src.now c.args.src_pitch c.args.frame.now c.args.spill.now c.args.scratch.now ≡ 0 = sym c.build_tested-t.ensures ∙ ap tested c.in-Fine.is in
     passed_view _ _ (fine _ _ (build_stored _ _ _ _ _ _ _ (passed)))
 
 pub build_spilled-requires : goal.build_spilled-requires
-build_spilled-requires c = 
+build_spilled-requires c =
     let passed : plane_no c.args.opts c.args.layout.now c.args.src.now c.args.src_pitch c.args.frame.now c.args.spill.now c.args.scratch.now ≡ 0 = sym c.build_tested-t.ensures ∙ ap tested c.in-Fine.is in
     rw c.view-q.ensures (ready_stored _ _ _ _ _ _ _ (passed))

@@ -1,21 +1,8 @@
 -- `copy_rows` meets its contract. The loop has copied the rows passed. Assumes nothing.
-use mathlib.Core.Path.{◌≡◌, sym, ap, ◌∙◌}
-use mathlib.Core.Bool.{true}
-use mathlib.Core.List.{List}
-use Prim.Native.Nat.{ℕ, ◌+◌, ◌*◌, ◌-◌, ◌≤◌, ◌<◌}
-use native.Mathlib.Omega.{arith}
-use lib.ListN.{length}
-use borrow.Author.Tests.{lt-ltb, not-false, not-true}
-use borrow.Author.Rules.{rules}
-use Rattle.layouts.specs.Storing.{put, steps}
-use Rattle.layouts.specs.Layout.{width_at, height_at}
-use Rattle.layouts.proofs.Choices.{cond_yes, cond_no}
-use Rattle.layouts.proofs.Loops.{Walked, walked_none, walked_more, walked_whole}
-use Rattle.layouts.proofs.Layouts.{allowed}
+use Prim.Native.Nat.{◌*◌, ◌-◌}
+use Rattle.layouts.specs.Storing.{put}
+use Rattle.layouts.proofs.Loops.{Walked}
 use Rattle.builder.specs.Canvas.{fetch}
-use Rattle.builder.proofs.Runs.{fetch_length}
-use Rattle.planes.specs.Build.{copied}
-use Rattle.planes.proofs.Whole.{target_row, source_row}
 use Rattle.planes.proofs.build.copy_rows.Given as goal
 
 abbrev pub invariant-loop-y : goal.invariant-loop-y

@@ -1,9 +1,7 @@
 -- `reduce` meets its contract. Assumes nothing.
 use mathlib.Core.Path.{◌≡◌, refl, sym, ap, ◌∙◌}
 use mathlib.Core.Bool.{Bool, ◌&&◌}
-use lib.ListN.{length}
 use Rattle.settings.proofs.Tests.{and_right}
-use Rattle.layouts.specs.Margins.{fused_at}
 use Rattle.planes.proofs.Prepared.{fused_stored, fused_whole, within_here, spread_here, by_fused, by_stored, by_source}
 use Rattle.planes.proofs.later.reduce.Goals as goal
 

@@ -1,20 +1,10 @@
 -- `reduce_each` meets its contract. The loop has halved the levels passed, and carries what is reached at the last of them. Assumes nothing.
-use mathlib.Core.Path.{◌≡◌, ap, ◌∙◌}
-use Prim.Native.Nat.{ℕ, ◌+◌, ◌-◌, ◌≤◌, ◌<◌}
-use native.Mathlib.Omega.{arith}
+use mathlib.Core.Path.{◌≡◌}
+use Prim.Native.Nat.{◌+◌, ◌-◌, ◌≤◌}
 use lib.ListN.{length}
-use Rattle.settings.specs.declared.super_opts.Naturals.{Naturals}
-use Rattle.settings.specs.Limits.{most_levels}
-use mathlib.Core.List.{◌++◌}
-use Rattle.layouts.specs.declared.descent.Descent.{Descent}
-use Rattle.layouts.specs.Storing.{steps}
-use Rattle.layouts.specs.Layout.{levels_of}
 use Rattle.layouts.specs.Descent.{reached}
-use Rattle.layouts.proofs.Loops.{walked_whole, next_less}
-use Rattle.layouts.proofs.Layouts.{allowed, levels_le}
-use Rattle.builder.proofs.Runs.{Passed, passed_none, passed_next}
-use Rattle.planes.specs.Build.{level_by, halved_by}
-use Rattle.planes.proofs.Prepared.{ready_kept}
+use Rattle.builder.proofs.Runs.{Passed}
+use Rattle.planes.specs.Build.{level_by}
 use Rattle.planes.proofs.later.reduce_each.Given as goal
 
 abbrev pub invariant-loop-level : goal.invariant-loop-level

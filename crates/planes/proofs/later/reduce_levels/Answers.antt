@@ -13,7 +13,7 @@ use Rattle.planes.proofs.later.reduce_levels.Goals as goal
 
 pub returns-in_default : goal.returns-in_default
 unfolding halved_by
-returns-in_default c = 
+returns-in_default c =
     let down : SFits w32 c.args.layout.opts.scale_down = search rules in
     let a = c.args in
     let none = sym (c.from_option.ensures ∙ ap chosen (to_z-of_z (down))) ∙ c.in_default.is in

@@ -20,6 +20,7 @@ pub returns-then-h-w : goal.returns-then-h-w
 returns-then-h-w c = let l = c.loop-h in omega (arith, l.invariant.0, stops l.w l.h c.if-h-w.true)
 
 pub loop-h-preserved : goal.loop-h-preserved
-loop-h-preserved c = let l = c.loop-h in
+loop-h-preserved c =
+    let l = c.loop-h in
     let both = goes l.w l.h c.if-h-w.false in
     rw (c.reduce_once-w.ensures, c.reduce_once-h.ensures) (omega (arith, l.invariant.0, levels_more l.w l.h both.0 both.1), omega (arith, both))

@@ -17,8 +17,8 @@ pub returns-then-levels-eq0 : goal.returns-then-levels-eq0
 returns-then-levels-eq0 c = let a = c.args in ap (λ (x : ℕ). ltb x 4) c.shorter-least.ensures ∙ sym (levels_none a.width a.height) ∙ ap (λ (x : ℕ). eqb x (auto_levels a.width a.height)) (sym c.if-levels-eq0.true)
 
 pub returns-then-levels-gt30 : goal.returns-then-levels-gt30
-returns-then-levels-gt30 c = let s = c in
-    let a = s.args in
+returns-then-levels-gt30 c =
+    let a = c.args in
     sym (ne_eqb a.levels (auto_levels a.width a.height) (λ e. omega (arith, levels_small 30 a.width a.width a.height (omega arith))))
 
 pub returns : goal.returns

@@ -11,13 +11,12 @@ pub upward-requires : goal.upward-requires
 unfolding reduced
 upward-requires c =
     let row : c.at_least_one-width.result ≡ max 1 (reduce c.args.base_w) = c.at_least_one-width.ensures ∙ ap (max 1) c.reduce_dim.ensures in
-    let a = c in omega (arith, row, area_small a.args.base_w a.args.base_h a.requires.0 a.requires.1)
+    omega (arith, row, area_small c.args.base_w c.args.base_h c.requires.0 c.requires.1)
 
 pub returns : goal.returns
 unfolding packed_height reduced
 returns c =
-    let row : c.at_least_one-width.result ≡ max 1 (reduce c.args.base_w) = c.at_least_one-width.ensures ∙ ap (max 1) c.reduce_dim.ensures in
-    let a = c in (
-      c.raised_to_even.ensures ∙ ap raised_to_even (c.upward.ensures ∙ ap (upward (a.args.base_w * a.args.base_h / 2)) (row)),
-      omega (arith, row, area_small a.args.base_w a.args.base_h a.requires.0 a.requires.1, upward_le (a.args.base_w * a.args.base_h / 2) c.at_least_one-width.result),
+    let row : c.at_least_one-width.result ≡ max 1 (reduce c.args.base_w) = c.at_least_one-width.ensures ∙ ap (max 1) c.reduce_dim.ensures in (
+      c.raised_to_even.ensures ∙ ap raised_to_even (c.upward.ensures ∙ ap (upward (c.args.base_w * c.args.base_h / 2)) (row)),
+      omega (arith, row, area_small c.args.base_w c.args.base_h c.requires.0 c.requires.1, upward_le (c.args.base_w * c.args.base_h / 2) c.at_least_one-width.result),
     )

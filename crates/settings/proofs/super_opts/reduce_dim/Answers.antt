@@ -9,4 +9,4 @@ unfolding reduced
 loop-init c = (refl, omega arith)
 
 pub loop-preserved : goal.loop-preserved
-loop-preserved c = let l = c in (c.reduce_once-d.ensures ∙ ap reduce l.loop.invariant.0 ∙ sym (reduced_next l.args.dim l.loop.counter), omega arith)
+loop-preserved c = (c.reduce_once-d.ensures ∙ ap reduce c.loop.invariant.0 ∙ sym (reduced_next c.args.dim c.loop.counter), omega arith)

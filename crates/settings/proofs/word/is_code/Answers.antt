@@ -5,8 +5,8 @@ use Rattle.settings.proofs.word.is_code.Goals as goal
 
 pub returns-in-Word : goal.returns-in-Word
 unfolding is_code
-returns-in-Word c = let p = c in let k = packed_word_lem p.args.r c.in-Word.w (c.in-Word.ensures) in rw (k.0, k.1)
+returns-in-Word c = let k = packed_word_lem c.args.r c.in-Word.w c.in-Word.ensures in rw (k.0, k.1)
 
 pub returns-in-Refused : goal.returns-in-Refused
 unfolding is_code
-returns-in-Refused c = let p = c in rw (packed_not p.args.r c.in-Refused.field-0 (c.in-Refused.ensures))
+returns-in-Refused c = rw (packed_not c.args.r c.in-Refused.field-0 c.in-Refused.ensures)

@@ -16,18 +16,16 @@ use Rattle.stored.proofs.layout.ends_in_zeros.Goals as goal
 pub returns-then-not-same_region : goal.returns-then-not-same_region
 returns-then-not-same_region c =
     let found : c.same_region.result ≡ same_region (region_in c.args.numbers.now c.loop-level.level) no_region = c.same_region.ensures ∙ ap (λ (x : Region). same_region x no_region) c.region_in.ensures in
-    let turn = c in
-    let l = turn.loop-level in
-    let s = turn in
-    let q = s.args.layout in
-    let none = region_none q l.level (omega (arith, s.requires.1, l.invariant.0)) in
-    let other : same_at q s.args.numbers.now l.level ≡ false = ap (same_region (region_in s.args.numbers.now l.level)) none ∙ sym (found) ∙ not-true c.same_region.result c.if-not-same_region.true-raw in
-    sym (every_no (same_at q s.args.numbers.now) most_levels l.level (omega (arith, turn.loop-level-test.true)) other)
+    let l = c.loop-level in
+    let q = c.args.layout in
+    let none = region_none q l.level (omega (arith, c.requires.1, l.invariant.0)) in
+    let other : same_at q c.args.numbers.now l.level ≡ false = ap (same_region (region_in c.args.numbers.now l.level)) none ∙ sym (found) ∙ not-true c.same_region.result c.if-not-same_region.true-raw in
+    sym (every_no (same_at q c.args.numbers.now) most_levels l.level (omega (arith, c.loop-level-test.true)) other)
 
 pub returns : goal.returns
-returns c = let l = c.loop-level in
-    let s = c in
-    let q = s.args.layout in
-    let numbers = s.args.numbers.now in
-    let past : (j : ℕ) → j < most_levels → s.args.levels ≤ j → same_at q numbers j ≡ true = λ j lt le. ap (same_region (region_in numbers j)) (region_none q j (omega (arith, s.requires.1))) ∙ l.invariant.1 j le (omega (arith, c.loop-level-test.false)) in
-    sym (every_yes (same_at q numbers) most_levels (λ j lt. ⊎_elim (λ (k : j < s.args.levels). every_at (same_at q numbers) s.args.levels s.requires.3 j k) (past j lt) (below_or j s.args.levels)))
+returns c =
+    let l = c.loop-level in
+    let q = c.args.layout in
+    let numbers = c.args.numbers.now in
+    let past : (j : ℕ) → j < most_levels → c.args.levels ≤ j → same_at q numbers j ≡ true = λ j lt le. ap (same_region (region_in numbers j)) (region_none q j (omega (arith, c.requires.1))) ∙ l.invariant.1 j le (omega (arith, c.loop-level-test.false)) in
+    sym (every_yes (same_at q numbers) most_levels (λ j lt. ⊎_elim (λ (k : j < c.args.levels). every_at (same_at q numbers) c.args.levels c.requires.3 j k) (past j lt) (below_or j c.args.levels)))

@@ -12,7 +12,8 @@ use Rattle.stored.proofs.Exact.{shaped, layout_by_pitch, viewless, by_levels}
 use Rattle.stored.proofs.layout.is_stored.Goals as goal
 
 pub returns-then-not-has_view : goal.returns-then-not-has_view
-returns-then-not-has_view c = let s = c.args in
+returns-then-not-has_view c =
+    let s = c.args in
     sym (viewless s.opts s.numbers.now (sym c.has_view.ensures ∙ not-true c.has_view.result c.if-not-has_view.true-raw))
 
 pub returns-then-bad_pitch : goal.returns-then-bad_pitch

@@ -14,5 +14,6 @@ unfolding stored_no
 returns-then-not-is_stored c = rw (sym c.accepted.ensures ∙ not-false c.accepted.result c.if-not-accepted.false-raw, sym c.is_stored.ensures ∙ not-true c.is_stored.result c.if-not-is_stored.true-raw) refl
 
 pub returns : goal.returns
-returns c = let s = c.args in
+returns c =
+    let s = c.args in
     sym (passes s.opts s.layout.now (stored_passed s.opts s.layout.now (sym c.is_stored.ensures ∙ not-false c.is_stored.result c.if-not-is_stored.false-raw)))

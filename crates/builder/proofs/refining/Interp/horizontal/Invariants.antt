@@ -1,13 +1,11 @@
 -- `horizontal` meets its contract. The loop has made the rows passed. Assumes nothing.
-use mathlib.Core.Path.{◌≡◌, refl, ◌∙◌}
+use mathlib.Core.Path.{◌≡◌}
 use Prim.Native.Nat.{◌+◌, ◌*◌, ◌-◌}
-use native.Mathlib.Omega.{arith}
 use lib.ListN.{length}
 use Rattle.filters.specs.Refine.{half_horizontal}
 use Rattle.layouts.specs.Storing.{put}
-use Rattle.layouts.proofs.Loops.{row_in, Walked, walked_none, walked_more, walked_whole, next_fits, next_less}
+use Rattle.layouts.proofs.Loops.{Walked}
 use Rattle.builder.specs.Canvas.{fetch}
-use Rattle.builder.specs.Refining.{horizontal_plane}
 use Rattle.builder.proofs.refining.Interp.horizontal.Given as goal
 
 abbrev pub invariant-loop-y : goal.invariant-loop-y

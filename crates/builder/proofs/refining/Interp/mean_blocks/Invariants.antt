@@ -1,11 +1,7 @@
 -- `mean_blocks` meets its contract. The loop has made the blocks passed. Assumes nothing.
-use mathlib.Core.Path.{◌≡◌, refl, ap, ◌∙◌}
-use Prim.Native.Nat.{ℕ, ◌+◌, ◌*◌, ◌-◌}
-use native.Mathlib.Omega.{arith}
-use Rattle.layouts.proofs.Loops.{Walked, walked_none, walked_more, walked_whole, next_less}
-use Rattle.builder.specs.Canvas.{◌▷◌}
-use Rattle.builder.specs.Refining.{pair_run}
-use Rattle.builder.proofs.AtOnce.{block, block_in, in_blocks}
+use Prim.Native.Nat.{◌+◌, ◌-◌}
+use Rattle.layouts.proofs.Loops.{Walked}
+use Rattle.builder.proofs.AtOnce.{block}
 use Rattle.builder.proofs.refining.Interp.mean_blocks.Given as goal
 
 abbrev pub invariant-loop-k : goal.invariant-loop-k

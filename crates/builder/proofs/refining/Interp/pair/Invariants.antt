@@ -1,12 +1,7 @@
 -- `pair` meets its contract. The loop has made the rows passed. Assumes nothing.
-use mathlib.Core.Path.{ap, ◌∙◌}
-use mathlib.Core.List.{◌++◌}
-use Prim.Native.Nat.{ℕ, ◌+◌, ◌*◌, ◌-◌}
-use native.Mathlib.Omega.{arith}
-use Rattle.layouts.specs.Storing.{steps}
-use Rattle.layouts.proofs.Loops.{row_in, walked_whole, next_fits, next_less}
-use Rattle.builder.specs.Refining.{pair_run, pair_plane}
-use Rattle.builder.proofs.Runs.{Passed, passed_none, passed_more}
+use Prim.Native.Nat.{◌+◌, ◌*◌, ◌-◌}
+use Rattle.builder.specs.Refining.{pair_run}
+use Rattle.builder.proofs.Runs.{Passed}
 use Rattle.builder.proofs.refining.Interp.pair.Given as goal
 
 abbrev pub invariant-loop-y : goal.invariant-loop-y

@@ -1,11 +1,10 @@
 -- `vertical` meets its contract. The loop has made the rows passed. Assumes nothing.
-use mathlib.Core.Path.{◌≡◌, refl, ◌∙◌}
+use mathlib.Core.Path.{◌≡◌}
 use Prim.Native.Nat.{◌+◌, ◌*◌, ◌-◌}
-use native.Mathlib.Omega.{arith}
 use lib.ListN.{length}
 use Rattle.layouts.specs.Storing.{put}
-use Rattle.layouts.proofs.Loops.{Walked, walked_none, walked_more, walked_whole, next_less}
-use Rattle.builder.specs.Refining.{vertical_run, vertical_plane}
+use Rattle.layouts.proofs.Loops.{Walked}
+use Rattle.builder.specs.Refining.{vertical_run}
 use Rattle.builder.proofs.refining.Interp.vertical.Given as goal
 
 abbrev pub invariant-loop-y : goal.invariant-loop-y

@@ -11,7 +11,8 @@ pub returns-then-n-lead : goal.returns-then-n-lead
 returns-then-n-lead c = let a = c.args in c.mean_with_next.ensures ∙ short_row a.self (length a.out.now) a.row.now (omega (arith, c.tail-tail.ensures, c.lead-lead.ensures))
 
 pub returns : goal.returns
-returns c = let a = c.args in
+returns c =
+    let a = c.args in
     let e = c.lead-lead.ensures.0 in
     let f = c.tail-tail.ensures.0 in
     let parts : Parts c.lead-lead.result a.row.now c.rest.result.now c.rest-2.result.now c.rest-3.result.now c.rest-4.result.now c.rest-5.result.now = record { at1 = c.rest.ensures; at2 = c.rest-2.ensures; at3 = c.rest-3.ensures; at4 = c.rest-4.ensures; at5 = c.rest-5.ensures } in

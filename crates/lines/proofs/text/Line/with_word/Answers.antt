@@ -22,12 +22,12 @@ closed l f = rw (number_some f) (sym (append-nil (l ++ spaced (decimal (number f
 
 pub returns-in-Tells : goal.returns-in-Tells
 unfolding word_line
-returns-in-Tells c = let t = c in
-    let line = t.args.line.now in
-    said (ap (text line) c.in-Tells.ensures) (wider 254 (omega arith) (c.with_description.ensures after c.with_number.ensures after t.with_bytes-spelled.ensures))
+returns-in-Tells c =
+    let line = c.args.line.now in
+    said (ap (text line) c.in-Tells.ensures) (wider 254 (omega arith) (c.with_description.ensures after c.with_number.ensures after c.with_bytes-spelled.ensures))
 
 pub returns-in-Refused : goal.returns-in-Refused
 unfolding word_line
-returns-in-Refused c = let t = c in
-    let line = t.args.line.now in
-    said (closed line c.in-Refused.f ∙ ap (text line) c.in-Refused.ensures) (wider 254 (omega arith) (said (ap (λ (n : ℕ). spaced (decimal n)) c.number.ensures) c.with_number-in-Refused.ensures after t.with_bytes-spelled.ensures))
+returns-in-Refused c =
+    let line = c.args.line.now in
+    said (closed line c.in-Refused.f ∙ ap (text line) c.in-Refused.ensures) (wider 254 (omega arith) (said (ap (λ (n : ℕ). spaced (decimal n)) c.number.ensures) c.with_number-in-Refused.ensures after c.with_bytes-spelled.ensures))

@@ -15,13 +15,14 @@ unfolding super_height
 returns-then-self c = rw c.if-self.true
 
 pub super_plane_height-requires : goal.super_plane_height-requires
-super_plane_height-requires c = let w = within c.args.self c.requires in
+super_plane_height-requires c =
+    let w = within c.args.self c.requires in
     let n = c.naturals-n.ensures in
     omega (arith, ap (λ (x : Naturals). x.width) n, ap (λ (x : Naturals). x.height) n, ap (λ (x : Naturals). x.pel) n, ap (λ (x : Naturals). x.levels) n)
 
 pub returns : goal.returns
 unfolding super_height
-returns c = let n = c in
-    let r = n.args.self in
+returns c =
+    let r = c.args.self in
     let height = c.super_plane_height in
-    to_z_pos w32 height.ensures.1 ∙ ap pos (height.ensures.0 ∙ ap (λ (x : Naturals). cond r.full (full_height x.height x.pel x.levels) (packed_height x.width x.height)) n.naturals-n.ensures ∙ rw n.if-self.false)
+    to_z_pos w32 height.ensures.1 ∙ ap pos (height.ensures.0 ∙ ap (λ (x : Naturals). cond r.full (full_height x.height x.pel x.levels) (packed_height x.width x.height)) c.naturals-n.ensures ∙ rw c.if-self.false)

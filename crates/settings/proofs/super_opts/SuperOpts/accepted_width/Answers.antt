@@ -13,16 +13,16 @@ use Rattle.settings.proofs.Integers.{same, counts}
 use Rattle.settings.proofs.super_opts.SuperOpts.accepted_width.Goals as goal
 
 pub returns-then-self : goal.returns-then-self
-returns-then-self c = let s = c in
-    let r = s.args.self in
-    same r.width (search rules) ∙ sym (pos_side r.width (sound r (fine r s.requires).none).width) ∙ rw c.if-self.true
+returns-then-self c =
+    let r = c.args.self in
+    same r.width (search rules) ∙ sym (pos_side r.width (sound r (fine r c.requires).none).width) ∙ rw c.if-self.true
 
 pub overflow_cast-result : goal.overflow_cast-result
 unfolding reduced
 overflow_cast-result c =
     let halved : c.reduce_dim.result ≡ reduce (luma_w c.args.self) = let r = c.args.self in
     c.reduce_dim.ensures ∙ ap reduce (counts r.width c.natural.result (search rules) c.natural.ensures) in
-    let small : c.reduce_dim.result < 2 ^ 31 = let s = c in omega (arith, halved, (within s.args.self s.requires).width) in
+    let small : c.reduce_dim.result < 2 ^ 31 = omega (arith, halved, (within c.args.self c.requires).width) in
     record { sfits = small }
 
 pub returns : goal.returns
@@ -30,5 +30,5 @@ unfolding reduced
 returns c =
     let halved : c.reduce_dim.result ≡ reduce (luma_w c.args.self) = let r = c.args.self in
     c.reduce_dim.ensures ∙ ap reduce (counts r.width c.natural.result (search rules) c.natural.ensures) in
-    let small : c.reduce_dim.result < 2 ^ 31 = let s = c in omega (arith, halved, (within s.args.self s.requires).width) in
+    let small : c.reduce_dim.result < 2 ^ 31 = omega (arith, halved, (within c.args.self c.requires).width) in
     to_z_pos w32 (small) ∙ ap pos (halved ∙ rw c.if-self.false)

@@ -7,13 +7,13 @@ use Rattle.settings.proofs.Words.{small}
 use Rattle.settings.proofs.super_opts.SuperOpts.word.Goals as goal
 
 pub joined-requires : goal.joined-requires
-joined-requires c = let n = c in
-    let s = small n.args.self n.requires in
-    let e = n.naturals-n.ensures in
+joined-requires c =
+    let s = small c.args.self c.requires in
+    let e = c.naturals-n.ensures in
     omega (arith, c.level_flags.ensures, ap (λ (x : Naturals). x.height) e, ap (λ (x : Naturals). x.width) e, ap (λ (x : Naturals). x.pel) e, ap (λ (x : Naturals). x.levels) e, ap (λ (x : Naturals). x.gpu) e)
 
 pub returns : goal.returns
 unfolding word_of
-returns c = let l = c in
-    let e = l.naturals-n.ensures in
-    omega (arith, c.joined.ensures, c.flags.ensures, l.level_flags.ensures, ap (λ (x : Naturals). x.height) e, ap (λ (x : Naturals). x.width) e, ap (λ (x : Naturals). x.pel) e, ap (λ (x : Naturals). x.levels) e, ap (λ (x : Naturals). x.gpu) e)
+returns c =
+    let e = c.naturals-n.ensures in
+    omega (arith, c.joined.ensures, c.flags.ensures, c.level_flags.ensures, ap (λ (x : Naturals). x.height) e, ap (λ (x : Naturals). x.width) e, ap (λ (x : Naturals). x.pel) e, ap (λ (x : Naturals). x.levels) e, ap (λ (x : Naturals). x.gpu) e)
