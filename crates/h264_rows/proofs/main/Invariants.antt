@@ -1,6 +1,5 @@
 -- `main` meets its contract. Assumes nothing.
 use Prim.Native.Nat.{◌-◌, ◌≤◌}
-use native.Mathlib.Omega.{arith}
 use Rattle.h264_rows.proofs.main.Given as goal
 
 abbrev pub invariant-loop-pictures : goal.invariant-loop-pictures

@@ -1,6 +1,5 @@
 -- `main` meets its contract. Assumes nothing.
 use Prim.Native.Nat.{◌-◌, ◌≤◌}
-use native.Mathlib.Omega.{arith}
 use Rattle.replay_rows.proofs.main.Given as goal
 
 abbrev pub invariant-loop-cases : goal.invariant-loop-cases

@@ -1,6 +1,5 @@
 -- `main` meets its contract. Assumes nothing.
 use Prim.Native.Nat.{◌-◌, ◌≤◌}
-use native.Mathlib.Omega.{arith}
 use Rattle.replay_settings.proofs.main.Given as goal
 
 abbrev pub invariant-loop-lines : goal.invariant-loop-lines
