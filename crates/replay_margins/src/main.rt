@@ -46,7 +46,10 @@ fn answer_frame<R: Input + Print>(rt: &R, head: &[u8; 80], frame: &mut [u8]) -> 
     let laid = laid_of(head);
     if word(head, 18) == 0 {
         let layout = laid.layout;
-        put_tested(rt, after_making(laid, clear_margins(frame, record_of(head), &layout)))?;
+        put_tested(
+            rt,
+            after_making(laid, clear_margins(frame, record_of(head), &layout)),
+        )?;
         rt.write_all(frame)?;
         return Ok(true);
     }
