@@ -3,76 +3,88 @@
 #![tactic(auto)]
 
 use layouts::layout::Layout;
-use libc::STDOUT_FILENO;
 use lookups::margins::clear_margins;
 use planes::build::build_plane;
 use settings::refusal::Tested;
 use settings::super_opts::{Checked, OptBool, OptInt, Settings, SuperOpts};
+use std::io;
 use stored::layout::{LAYOUT, level_regions};
 
-fn main() {
+fn main(rt: HostRuntime) -> io::Result<()> {
     let mut frame = [1u8; 15000];
     print(
-        b"64x48, pel 2, pitch 64, 14976 bytes: ",
+        &rt,
+        "64x48, pel 2, pitch 64, 14976 bytes: ",
         cleared(&mut frame, 14976, layout(2, 64, 48, 0, 64)),
-    );
+    )?;
     print(
-        b"64x48, pel 2, pitch 64, 14975 bytes: ",
+        &rt,
+        "64x48, pel 2, pitch 64, 14975 bytes: ",
         cleared(&mut frame, 14975, layout(2, 64, 48, 0, 64)),
-    );
+    )?;
     print(
-        b"target 8 wide, margin byte: ",
+        &rt,
+        "target 8 wide, margin byte: ",
         margin(layout(1, 16, 16, 0, 32), 512 + 8),
-    );
+    )?;
     print(
-        b"target 7 wide, margin byte: ",
+        &rt,
+        "target 7 wide, margin byte: ",
         margin(layout(1, 28, 16, 1, 32), 512 + 7),
-    );
+    )?;
     print(
-        b"target 10 wide, margin byte: ",
+        &rt,
+        "target 10 wide, margin byte: ",
         margin(layout(1, 20, 16, 0, 32), 512 + 10),
-    );
+    )?;
     print(
-        b"target 8 wide, built, byte at 2 * width: ",
+        &rt,
+        "target 8 wide, built, byte at 2 * width: ",
         built_margin(layout(1, 16, 16, 0, 32), 512 + 16),
-    );
+    )?;
     print(
-        b"target 7 wide, built, byte at 2 * width: ",
+        &rt,
+        "target 7 wide, built, byte at 2 * width: ",
         built_margin(layout(1, 28, 16, 1, 32), 512 + 14),
-    );
+    )?;
     print(
-        b"target 10 wide, built, byte at 2 * width: ",
+        &rt,
+        "target 10 wide, built, byte at 2 * width: ",
         built_margin(layout(1, 20, 16, 0, 32), 512 + 20),
-    );
-    overwritten();
+    )?;
+    overwritten(&rt)?;
     print(
-        b"16x24, not full, byte 161 of an exact frame: ",
+        &rt,
+        "16x24, not full, byte 161 of an exact frame: ",
         past_end(180),
-    );
+    )?;
     print(
-        b"16x24, not full, byte 161 with 255s past its end: ",
+        &rt,
+        "16x24, not full, byte 161 with 255s past its end: ",
         past_end(260),
-    );
+    )
 }
 
 // 20x20 at pitch 20 by the defaults, built with pel 1 and pel 2: what differs in level 1 was overwritten.
-fn overwritten() {
+fn overwritten<R: Print>(rt: &R) -> io::Result<()> {
     let mut src = [0u8; 400];
     columns(&mut src);
     let mut whole = [0u8; 680];
     let mut refined = [0u8; 1880];
     let first = built(&mut whole, layout(1, 20, 20, 0, 20), &src, 20);
     let second = built(&mut refined, layout(2, 20, 20, 0, 20), &src, 20);
-    print(b"20x20, pitch 20, pel 1: ", first);
-    print(b"20x20, pitch 20, pel 2: ", second);
+    print(rt, "20x20, pitch 20, pel 1: ", first)?;
+    print(rt, "20x20, pitch 20, pel 2: ", second)?;
     print(
-        b"20x20, pel 2, bytes of level 1 and later that differ: ",
+        rt,
+        "20x20, pel 2, bytes of level 1 and later that differ: ",
         differences(&refined, 1600, &whole, 400, 280),
-    );
+    )?;
     print(
-        b"20x20, pel 2, of the first 12: ",
+        rt,
+        "20x20, pel 2, of the first 12: ",
         differences(&refined, 1600, &whole, 400, 12),
-    );
+    )
 }
 
 // Rows of 20 bytes, each byte ten times its column.
@@ -162,10 +174,8 @@ fn built(frame: &mut [u8], layout: Layout, src: &[u8], src_pitch: usize) -> u32 
     ))
 }
 
-fn print(what: &[u8], n: u32) {
-    io::write_all(STDOUT_FILENO, what);
-    io::print_decimal(STDOUT_FILENO, n as u64);
-    io::write_all(STDOUT_FILENO, b"\n");
+fn print<R: Print>(rt: &R, what: &str, n: u32) -> io::Result<()> {
+    println!(rt; "{what}{n}")
 }
 
 fn layout(pel: i32, width: i32, height: i32, x_shift: u32, pitch: usize) -> Layout {

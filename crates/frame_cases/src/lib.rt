@@ -8,11 +8,12 @@
 
 ghost use Rattle.std.specs.Prelude.{◌+◌, ◌*◌, ◌≤◌, ◌<◌, length};
 
+use input::read_full;
 use layouts::layout::Layout;
-use libc::{STDERR_FILENO, STDIN_FILENO, STDOUT_FILENO};
 use settings::numbers::from_bits;
 use settings::refusal::Tested;
 use settings::super_opts::SuperOpts;
+use std::io;
 use stored::layout::{Laid, level_regions};
 
 pub fn word(head: &[u8], k: usize) -> u32
@@ -81,36 +82,37 @@ pub fn after_making(laid: Laid, call: Tested) -> Tested {
     }
 }
 
-pub fn read_whole(bytes: &mut [u8]) -> bool {
-    io::read_full(STDIN_FILENO, bytes) >= bytes.len()
+pub fn read_whole<R: Input>(rt: &R, bytes: &mut [u8]) -> io::Result<bool> {
+    Ok(read_full(rt, bytes)? >= bytes.len())
 }
 
 // A case that a program's arrays can't hold: said, and nothing more is answered, so that the comparison fails.
-pub fn too_long() -> bool {
-    io::write_all(STDERR_FILENO, b"replay: a case is too long\n");
-    false
+pub fn too_long<R: Eprint>(rt: &R) -> io::Result<bool> {
+    eprintln!(rt; "replay: a case is too long")?;
+    Ok(false)
 }
 
-pub fn earlier(
+pub fn earlier<R: Input>(
+    rt: &R,
     frame: &mut [u8],
     spill: &mut [u8],
     scratch: &mut [u8],
     made: bool,
     seed: u32,
-) -> bool {
+) -> io::Result<bool> {
     if !made {
-        if !read_whole(frame) {
-            return false;
+        if !read_whole(rt, frame)? {
+            return Ok(false);
         }
-        if !read_whole(spill) {
-            return false;
+        if !read_whole(rt, spill)? {
+            return Ok(false);
         }
-        return read_whole(scratch);
+        return read_whole(rt, scratch);
     }
     let after_frame = make(frame, seed as u64 % 0x7fff_ffff);
     let after_spill = make(spill, after_frame);
     make(scratch, after_spill);
-    true
+    Ok(true)
 }
 
 fn make(bytes: &mut [u8], seed: u64) -> u64
@@ -125,40 +127,49 @@ fn make(bytes: &mut [u8], seed: u64) -> u64
     x
 }
 
-pub fn put_tested(t: Tested) {
-    put_number(match t {
-        Tested::Fine => 0,
-        Tested::Refused(f) => f.number(),
-    });
+pub fn put_tested<R: Print>(rt: &R, t: Tested) -> io::Result<()> {
+    put_number(
+        rt,
+        match t {
+            Tested::Fine => 0,
+            Tested::Refused(f) => f.number(),
+        },
+    )
 }
 
-pub fn put_number(n: u32) {
+pub fn put_number<R: Print>(rt: &R, n: u32) -> io::Result<()> {
     let bytes = [
         (n % 256) as u8,
         (n / 256 % 256) as u8,
         (n / 65536 % 256) as u8,
         (n / 0x100_0000) as u8,
     ];
-    io::write_all(STDOUT_FILENO, &bytes);
+    rt.write_all(&bytes)
 }
 
 // A number of two words, the high one first.
-pub fn put_long(n: usize) {
-    put_number((n / 0x1_0000_0000) as u32);
-    put_number((n % 0x1_0000_0000) as u32);
+pub fn put_long<R: Print>(rt: &R, n: usize) -> io::Result<()> {
+    put_number(rt, (n / 0x1_0000_0000) as u32)?;
+    put_number(rt, (n % 0x1_0000_0000) as u32)
 }
 
-pub fn put_bytes(frame: &[u8], spill: &[u8], scratch: &[u8], whole: bool) -> bool {
-    put_sums(frame);
-    put_sums(spill);
-    put_sums(scratch);
+pub fn put_bytes<R: Print>(
+    rt: &R,
+    frame: &[u8],
+    spill: &[u8],
+    scratch: &[u8],
+    whole: bool,
+) -> io::Result<()> {
+    put_sums(rt, frame)?;
+    put_sums(rt, spill)?;
+    put_sums(rt, scratch)?;
     if !whole {
-        return true;
+        return Ok(());
     }
-    io::write_all(STDOUT_FILENO, frame)
+    rt.write_all(frame)
 }
 
-fn put_sums(bytes: &[u8]) {
+fn put_sums<R: Print>(rt: &R, bytes: &[u8]) -> io::Result<()> {
     let mut a: u64 = 1;
     let mut b: u64 = 1;
     for i in 0..bytes.len() {
@@ -166,8 +177,8 @@ fn put_sums(bytes: &[u8]) {
         a = (a * 1_000_003 + x) % 4_294_967_291;
         b = (b * 998_244_353 + x) % 4_294_967_291;
     }
-    put_number(a as u32);
-    put_number(b as u32);
+    put_number(rt, a as u32)?;
+    put_number(rt, b as u32)
 }
 
 fn wide(b: u8) -> u64

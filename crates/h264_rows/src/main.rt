@@ -5,74 +5,92 @@
 ghost use Rattle.std.specs.Prelude.{◌+◌, ◌≤◌, ◌<◌, ◌≡◌, length};
 
 use filters::half_pel::HalfPel;
-use libc::{STDIN_FILENO, STDOUT_FILENO};
+use input::read_full;
+use std::io;
 
-fn main() {
+fn main(rt: HostRuntime) -> io::Result<()> {
     let mut pictures: u32 = 0;
     while pictures < 100 {
-        if !picture() {
-            return;
+        if !picture(&rt)? {
+            return Ok(());
         }
         pictures += 1;
     }
+    Ok(())
 }
 
-fn picture() -> bool {
+fn picture<R: Input + Print>(rt: &R) -> io::Result<bool> {
     let mut head = [0u8; 2];
-    if io::read_full(STDIN_FILENO, &mut head) < 2 {
-        return false;
+    if read_full(rt, &mut head)? < 2 {
+        return Ok(false);
     }
     let w = wide(head[0]);
     let h = wide(head[1]);
     if w < 8 {
-        return false;
+        return Ok(false);
     }
     if h < 8 {
-        return false;
+        return Ok(false);
     }
     if 64 < w {
-        return false;
+        return Ok(false);
     }
     if 64 < h {
-        return false;
+        return Ok(false);
     }
-    held(w, h)
+    held(rt, w, h)
 }
 
 fn wide(b: u8) -> usize {
     b as usize
 }
 
-fn held(w: usize, h: usize) -> bool
+fn held<R: Input + Print>(rt: &R, w: usize, h: usize) -> io::Result<bool>
     requires { (8 ≤ w) × (8 ≤ h) × (w ≤ 64) × (h ≤ 64) }
 {
     let mut src = [0u8; 4096];
     let mut b = [0u8; 4096];
     let mut v = [0u8; 4096];
-    if !(read_plane(&mut src, area(w, h))
-        & read_plane(&mut b, area(w, h))
-        & read_plane(&mut v, area(w, h)))
+    if !(read_plane(rt, &mut src, area(w, h))?
+        & read_plane(rt, &mut b, area(w, h))?
+        & read_plane(rt, &mut v, area(w, h))?)
     {
-        return false;
+        return Ok(false);
     }
     let mut out = [0u8; 64];
-    compare(&mut out, &src, &b, &v, w, h)
+    compare(rt, &mut out, &src, &b, &v, w, h)?;
+    Ok(true)
 }
 
 // Cuts the row that the samples are made in to the picture's width.
-fn compare(out: &mut [u8], src: &[u8], b: &[u8], v: &[u8], w: usize, h: usize) -> bool
+fn compare<R: Print>(
+    rt: &R,
+    out: &mut [u8],
+    src: &[u8],
+    b: &[u8],
+    v: &[u8],
+    w: usize,
+    h: usize,
+) -> io::Result<()>
     requires { (8 ≤ w) × (8 ≤ h) × (w ≤ 64) × (h ≤ 64) × (64 ≤ length out.old) × (4096 ≤ length src.now) × (4096 ≤ length b.now) × (4096 ≤ length v.now) }
 {
-    compare_in(&mut out[..w], src, b, v, h)
+    compare_in(rt, &mut out[..w], src, b, v, h)
 }
 
-fn compare_in(out: &mut [u8], src: &[u8], b: &[u8], v: &[u8], h: usize) -> bool
+fn compare_in<R: Print>(
+    rt: &R,
+    out: &mut [u8],
+    src: &[u8],
+    b: &[u8],
+    v: &[u8],
+    h: usize,
+) -> io::Result<()>
     requires { (8 ≤ length out.old) × (length out.old ≤ 64) × (8 ≤ h) × (h ≤ 64) × (4096 ≤ length src.now) × (4096 ≤ length b.now) × (4096 ≤ length v.now) }
 {
     let w = out.len();
-    print_count(b"b", area(h, w - 6), along(out, src, b, h));
-    print_count(b" h", area(w, h - 6), down(out, src, v, h));
-    io::write_all(STDOUT_FILENO, b"\n")
+    print_count(rt, "b", area(h, w - 6), along(out, src, b, h))?;
+    print_count(rt, " h", area(w, h - 6), down(out, src, v, h))?;
+    println!(rt; "")
 }
 
 fn area(w: usize, h: usize) -> usize
@@ -81,20 +99,15 @@ fn area(w: usize, h: usize) -> usize
     w * h
 }
 
-fn read_plane(plane: &mut [u8], n: usize) -> bool {
+fn read_plane<R: Input>(rt: &R, plane: &mut [u8], n: usize) -> io::Result<bool> {
     if plane.len() < n {
-        return false;
+        return Ok(false);
     }
-    io::read_full(STDIN_FILENO, &mut plane[..n]) == n
+    Ok(read_full(rt, &mut plane[..n])? == n)
 }
 
-fn print_count(what: &[u8], compared: usize, differ: usize) {
-    io::write_all(STDOUT_FILENO, what);
-    io::write_all(STDOUT_FILENO, b" ");
-    io::print_decimal(STDOUT_FILENO, compared as u64);
-    io::write_all(STDOUT_FILENO, b" compared, ");
-    io::print_decimal(STDOUT_FILENO, differ as u64);
-    io::write_all(STDOUT_FILENO, b" differ");
+fn print_count<R: Print>(rt: &R, what: &str, compared: usize, differ: usize) -> io::Result<()> {
+    print!(rt; "{what} {compared} compared, {differ} differ")
 }
 
 // How many samples of b differ.

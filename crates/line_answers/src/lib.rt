@@ -8,12 +8,12 @@ ghost use Rattle.lines.specs.Text.{room, shown, Printed};
 ghost use Rattle.lines.specs.Parting.{lines_of};
 ghost use Rattle.line_answers.specs.Output.{line_for, lines_for, output_of, Front};
 
-use bytes::copy;
-use libc::{STDIN_FILENO, STDOUT_FILENO};
+use input::read_full;
 use lines::limits::{MOST_INPUT, MOST_OUTPUT};
 use lines::parting::bytes_before;
 use lines::text::{Line, line_out};
 use longhand_lines::longhand::longhand_line;
+use std::io;
 
 // Which program answers: which build each stored word names, or longhand records and settings.
 #[derive(Clone, Copy)]
@@ -29,6 +29,16 @@ fn line_for(program: Program, line: &[u8]) -> Line
         Program::Words => line_out(line),
         Program::Longhand => longhand_line(line),
     }
+}
+
+// To the front of `to`; answers how many bytes were copied.
+fn copy(from: &[u8], to: &mut [u8]) -> usize
+    requires { length from.now ≤ length to.old }
+    ensures { (result ≡ length from.now) × (to.new ≡ from.now ++ drop (length from.now) to.old) }
+{
+    let n = from.len();
+    to[..n].copy_from_slice(from);
+    n
 }
 
 // The line's text from place `at` on; answers the place after it.
@@ -66,11 +76,11 @@ pub fn output(program: Program, input: &[u8], out: &mut [u8; MOST_OUTPUT]) -> us
     put_lines(program, input, out)
 }
 
-pub fn answer_input(program: Program) {
+pub fn answer_input<R: Input + Print>(rt: &R, program: Program) -> io::Result<()> {
     // A byte more than is taken tells an input that is too long.
     let mut input = [0u8; MOST_INPUT + 1];
-    let n = io::read_full(STDIN_FILENO, &mut input);
+    let n = read_full(rt, &mut input)?;
     let mut out = [0u8; MOST_OUTPUT];
     let k = output(program, &input[..n], &mut out);
-    io::write_all(STDOUT_FILENO, &out[..k]);
+    rt.write_all(&out[..k])
 }

@@ -2,7 +2,8 @@
 #![tactic(auto)]
 
 use line_answers::Program;
+use std::io;
 
-fn main() {
-    line_answers::answer_input(Program::Longhand);
+fn main(rt: HostRuntime) -> io::Result<()> {
+    line_answers::answer_input(&rt, Program::Longhand)
 }

@@ -6,62 +6,78 @@ use frame_cases::{
     after_making, earlier, laid_of, long, put_bytes, put_tested, read_whole, record_of, too_long,
     word,
 };
-use libc::STDIN_FILENO;
+use input::read_full;
 use planes::build::{build_plane, build_plane_by};
 use settings::refusal::Tested;
+use std::io;
 
 // The largest: a plane of 1920x1080 with all its levels, and the scratch of the widest pitch.
-fn main() {
+fn main(rt: HostRuntime) -> io::Result<()> {
     let mut source = [0u8; 2_129_920];
     let mut frame = [0u8; 4_194_304];
     let mut spill = [0u8; 589_824];
     let mut scratch = [0u8; 524_800];
-    lend(&mut source, &mut frame, &mut spill, &mut scratch);
+    lend(&rt, &mut source, &mut frame, &mut spill, &mut scratch)
 }
 
 // The arrays as slices.
-fn lend(
+fn lend<R: Input + Print + Eprint>(
+    rt: &R,
     source: &mut [u8; 2_129_920],
     frame: &mut [u8; 4_194_304],
     spill: &mut [u8; 589_824],
     scratch: &mut [u8; 524_800],
-) {
-    answer_all(source, frame, spill, scratch);
+) -> io::Result<()> {
+    answer_all(rt, source, frame, spill, scratch)
 }
 
-fn answer_all(source: &mut [u8], frame: &mut [u8], spill: &mut [u8], scratch: &mut [u8]) {
+fn answer_all<R: Input + Print + Eprint>(
+    rt: &R,
+    source: &mut [u8],
+    frame: &mut [u8],
+    spill: &mut [u8],
+    scratch: &mut [u8],
+) -> io::Result<()> {
     let mut cases: u32 = 0;
     while cases < 4_000_000 {
-        if !answer_one(source, frame, spill, scratch) {
-            return;
+        if !answer_one(rt, source, frame, spill, scratch)? {
+            return Ok(());
         }
         cases += 1;
     }
+    Ok(())
 }
 
 // The parts are written from 0 on: of such ones the checker finds by itself that they are as long as they say.
-fn answer_one(source: &mut [u8], frame: &mut [u8], spill: &mut [u8], scratch: &mut [u8]) -> bool {
+fn answer_one<R: Input + Print + Eprint>(
+    rt: &R,
+    source: &mut [u8],
+    frame: &mut [u8],
+    spill: &mut [u8],
+    scratch: &mut [u8],
+) -> io::Result<bool> {
     let mut head = [0u8; 96];
-    if io::read_full(STDIN_FILENO, &mut head) < 96 {
-        return false;
+    if read_full(rt, &mut head)? < 96 {
+        return Ok(false);
     }
     let sources = word(&head, 16) as usize;
     let frames = word(&head, 17) as usize;
     let spills = word(&head, 18) as usize;
     let scratches = word(&head, 19) as usize;
     if source.len() < sources {
-        return too_long();
+        return too_long(rt);
     }
     if frame.len() < frames {
-        return too_long();
+        return too_long(rt);
     }
     if spill.len() < spills {
-        return too_long();
+        return too_long(rt);
     }
     if scratch.len() < scratches {
-        return too_long();
+        return too_long(rt);
     }
     answer(
+        rt,
         &head,
         &mut source[0..sources],
         &mut frame[0..frames],
@@ -70,34 +86,40 @@ fn answer_one(source: &mut [u8], frame: &mut [u8], spill: &mut [u8], scratch: &m
     )
 }
 
-fn answer(
+fn answer<R: Input + Print>(
+    rt: &R,
     head: &[u8; 96],
     source: &mut [u8],
     frame: &mut [u8],
     spill: &mut [u8],
     scratch: &mut [u8],
-) -> bool {
-    if !read_whole(source) {
-        return false;
+) -> io::Result<bool> {
+    if !read_whole(rt, source)? {
+        return Ok(false);
     }
-    answer_build(head, source, frame, spill, scratch)
+    answer_build(rt, head, source, frame, spill, scratch)
 }
 
-fn answer_build(
+fn answer_build<R: Input + Print>(
+    rt: &R,
     head: &[u8; 96],
     source: &[u8],
     frame: &mut [u8],
     spill: &mut [u8],
     scratch: &mut [u8],
-) -> bool {
+) -> io::Result<bool> {
     let made = word(head, 21) != 0;
-    if !earlier(frame, spill, scratch, made, word(head, 22)) {
-        return false;
+    if !earlier(rt, frame, spill, scratch, made, word(head, 22))? {
+        return Ok(false);
     }
     let laid = laid_of(head);
     let layout = laid.layout;
-    put_tested(after_making(laid, build(head, &layout, source, frame, spill, scratch)));
-    put_bytes(frame, spill, scratch, word(head, 20) != 0)
+    put_tested(
+        rt,
+        after_making(laid, build(head, &layout, source, frame, spill, scratch)),
+    )?;
+    put_bytes(rt, frame, spill, scratch, word(head, 20) != 0)?;
+    Ok(true)
 }
 
 fn build(

@@ -9,62 +9,78 @@ use frame_cases::{
 };
 use frames::build::build_frame;
 use frames::parts::{Part, Parted, Parts, frame_parts, frame_row_place};
+use input::read_full;
 use layouts::rows::Placed;
-use libc::STDIN_FILENO;
 use settings::refusal::Tested;
+use std::io;
 
 // The largest: 1440x1080 with all its levels, and the scratch of the widest picture.
-fn main() {
+fn main(rt: HostRuntime) -> io::Result<()> {
     let mut sources = [0u8; 2_424_832];
     let mut frame = [0u8; 4_718_592];
     let mut spill = [0u8; 4_096];
     let mut scratch = [0u8; 262_656];
-    lend(&mut sources, &mut frame, &mut spill, &mut scratch);
+    lend(&rt, &mut sources, &mut frame, &mut spill, &mut scratch)
 }
 
 // The arrays as slices.
-fn lend(
+fn lend<R: Input + Print + Eprint>(
+    rt: &R,
     sources: &mut [u8; 2_424_832],
     frame: &mut [u8; 4_718_592],
     spill: &mut [u8; 4_096],
     scratch: &mut [u8; 262_656],
-) {
-    answer_all(sources, frame, spill, scratch);
+) -> io::Result<()> {
+    answer_all(rt, sources, frame, spill, scratch)
 }
 
-fn answer_all(sources: &mut [u8], frame: &mut [u8], spill: &mut [u8], scratch: &mut [u8]) {
+fn answer_all<R: Input + Print + Eprint>(
+    rt: &R,
+    sources: &mut [u8],
+    frame: &mut [u8],
+    spill: &mut [u8],
+    scratch: &mut [u8],
+) -> io::Result<()> {
     let mut cases: u32 = 0;
     while cases < 4_000_000 {
-        if !answer_one(sources, frame, spill, scratch) {
-            return;
+        if !answer_one(rt, sources, frame, spill, scratch)? {
+            return Ok(());
         }
         cases += 1;
     }
+    Ok(())
 }
 
 // The parts are written from 0 on: of such ones the checker finds by itself that they are as long as they say.
-fn answer_one(sources: &mut [u8], frame: &mut [u8], spill: &mut [u8], scratch: &mut [u8]) -> bool {
+fn answer_one<R: Input + Print + Eprint>(
+    rt: &R,
+    sources: &mut [u8],
+    frame: &mut [u8],
+    spill: &mut [u8],
+    scratch: &mut [u8],
+) -> io::Result<bool> {
     let mut head = [0u8; 116];
-    if io::read_full(STDIN_FILENO, &mut head) < 116 {
-        return false;
+    if read_full(rt, &mut head)? < 116 {
+        return Ok(false);
     }
     let all = together(&head);
     let frames = word(&head, 19) as usize;
     let spills = word(&head, 20) as usize;
     let scratches = word(&head, 21) as usize;
     if sources.len() < all {
-        return too_long();
+        return too_long(rt);
     }
     if frame.len() < frames {
-        return too_long();
+        return too_long(rt);
     }
     if spill.len() < spills {
-        return too_long();
+        return too_long(rt);
     }
     if scratch.len() < scratches {
-        return too_long();
+        return too_long(rt);
     }
     answer(
+        rt,
         &head,
         &mut sources[0..all],
         &mut frame[0..frames],
@@ -78,46 +94,46 @@ fn together(head: &[u8; 116]) -> usize {
     word(head, 16) as usize + word(head, 17) as usize + word(head, 18) as usize
 }
 
-fn answer(
+fn answer<R: Input + Print>(
+    rt: &R,
     head: &[u8; 116],
     sources: &mut [u8],
     frame: &mut [u8],
     spill: &mut [u8],
     scratch: &mut [u8],
-) -> bool {
-    if !read_whole(sources) {
-        return false;
+) -> io::Result<bool> {
+    if !read_whole(rt, sources)? {
+        return Ok(false);
     }
     let made = word(head, 23) != 0;
-    if !earlier(frame, spill, scratch, made, word(head, 24)) {
-        return false;
+    if !earlier(rt, frame, spill, scratch, made, word(head, 24))? {
+        return Ok(false);
     }
-    answer_frame(head, sources, frame, spill, scratch)
+    answer_frame(rt, head, sources, frame, spill, scratch)
 }
 
 // Each source begins where the one before ends; the sources are as long as the three together.
-fn answer_frame(
+fn answer_frame<R: Print>(
+    rt: &R,
     head: &[u8; 116],
     sources: &[u8],
     frame: &mut [u8],
     spill: &mut [u8],
     scratch: &mut [u8],
-) -> bool {
+) -> io::Result<bool> {
     let ys = word(head, 16) as usize;
     let us = word(head, 17) as usize;
     if sources.len() < ys + us {
-        return false;
+        return Ok(false);
     }
     let y = &sources[0..ys];
     let u = &sources[ys..ys + us];
     let v = &sources[ys + us..];
-    put_tested(build(head, y, u, v, frame, spill, scratch));
-    if !put_bytes(frame, spill, scratch, word(head, 22) != 0) {
-        return false;
-    }
-    put_parted(frame_parts(record_of(head)));
-    put_placed(place(head, frame.len()));
-    true
+    put_tested(rt, build(head, y, u, v, frame, spill, scratch))?;
+    put_bytes(rt, frame, spill, scratch, word(head, 22) != 0)?;
+    put_parted(rt, frame_parts(record_of(head)))?;
+    put_placed(rt, place(head, frame.len()))?;
+    Ok(true)
 }
 
 fn build(
@@ -151,36 +167,36 @@ fn place(head: &[u8; 116], len: usize) -> Placed {
     )
 }
 
-fn put_parted(p: Parted) {
+fn put_parted<R: Print>(rt: &R, p: Parted) -> io::Result<()> {
     match p {
-        Parted::Parts(parts) => put_parts(parts),
-        Parted::Refused(f) => put_number(f.number()),
+        Parted::Parts(parts) => put_parts(rt, parts),
+        Parted::Refused(f) => put_number(rt, f.number()),
     }
 }
 
-fn put_parts(p: Parts) {
-    put_number(0);
-    put_part(p.y);
-    put_part(p.u);
-    put_part(p.v);
-    put_long(p.length);
-    put_long(p.needs.spill);
-    put_long(p.needs.scratch);
+fn put_parts<R: Print>(rt: &R, p: Parts) -> io::Result<()> {
+    put_number(rt, 0)?;
+    put_part(rt, p.y)?;
+    put_part(rt, p.u)?;
+    put_part(rt, p.v)?;
+    put_long(rt, p.length)?;
+    put_long(rt, p.needs.spill)?;
+    put_long(rt, p.needs.scratch)
 }
 
-fn put_part(p: Part) {
-    put_long(p.start);
-    put_long(p.pitch);
-    put_long(p.length);
+fn put_part<R: Print>(rt: &R, p: Part) -> io::Result<()> {
+    put_long(rt, p.start)?;
+    put_long(rt, p.pitch)?;
+    put_long(rt, p.length)
 }
 
-fn put_placed(p: Placed) {
+fn put_placed<R: Print>(rt: &R, p: Placed) -> io::Result<()> {
     match p {
         Placed::At(run) => {
-            put_number(0);
-            put_long(run.offset);
-            put_long(run.length);
+            put_number(rt, 0)?;
+            put_long(rt, run.offset)?;
+            put_long(rt, run.length)
         }
-        Placed::Refused(f) => put_number(f.number()),
+        Placed::Refused(f) => put_number(rt, f.number()),
     }
 }

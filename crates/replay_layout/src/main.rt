@@ -7,28 +7,30 @@
 ghost use Rattle.std.specs.Prelude.{◌<◌};
 
 use hex_lines::{bool_at, int_at, put_word, word_at};
+use input::read_full;
 use layouts::layout::{Layout, Region};
-use libc::{STDIN_FILENO, STDOUT_FILENO};
 use lookups::ends::{Ended, written_end};
 use settings::limits::MOST_LEVELS;
 use settings::refusal::Tested;
 use settings::super_opts::SuperOpts;
+use std::io;
 use stored::layout::{COUNT, LAYOUT, Laid, level_regions, region_in};
 
-fn main() {
+fn main(rt: HostRuntime) -> io::Result<()> {
     let mut lines: u32 = 0;
     while lines < 4_000_000 {
-        if !answer_one() {
-            return;
+        if !answer_one(&rt)? {
+            return Ok(());
         }
         lines += 1;
     }
+    Ok(())
 }
 
-fn answer_one() -> bool {
+fn answer_one<R: Input + Print>(rt: &R) -> io::Result<bool> {
     let mut case = [0u8; 126];
-    if io::read_full(STDIN_FILENO, &mut case) < 126 {
-        return false;
+    if read_full(rt, &mut case)? < 126 {
+        return Ok(false);
     }
     let mut out = [b' '; 513];
     let layout = layout_at(&case);
@@ -36,15 +38,16 @@ fn answer_one() -> bool {
     put_laid(&mut out, laid);
     put_end(&mut out, end_of(laid, layout.opts));
     end_line(&mut out);
-    write_line(&out)
+    write_line(rt, &out)?;
+    Ok(true)
 }
 
 fn end_line(out: &mut [u8; 513]) {
     out[512] = b'\n';
 }
 
-fn write_line(out: &[u8; 513]) -> bool {
-    io::write_all(STDOUT_FILENO, out)
+fn write_line<R: Print>(rt: &R, out: &[u8; 513]) -> io::Result<()> {
+    rt.write_all(out)
 }
 
 fn layout_at(case: &[u8; 126]) -> Layout {

@@ -9,7 +9,8 @@ ghost use Rattle.std.specs.Prelude.{◌+◌, ◌*◌, ◌≤◌, ◌<◌, ◌≡
 use filters::half_pel::HalfPel;
 use filters::halving::{Chosen, ReduceFilter, cubic_rest, deinterleave};
 use filters::rows::{copy_row, mean_row, zero_row};
-use libc::{STDIN_FILENO, STDOUT_FILENO};
+use input::read_full;
+use std::io;
 
 const MOST: usize = 4096;
 
@@ -23,26 +24,27 @@ struct Case {
     value: i32,
 }
 
-fn main() {
+fn main(rt: HostRuntime) -> io::Result<()> {
     let mut cases: u32 = 0;
     while cases < 4_000_000 {
-        if !answer_one() {
-            return;
+        if !answer_one(&rt)? {
+            return Ok(());
         }
         cases += 1;
     }
+    Ok(())
 }
 
-fn answer_one() -> bool {
+fn answer_one<R: Input + Print>(rt: &R) -> io::Result<bool> {
     let mut head = [0u8; 16];
-    if io::read_full(STDIN_FILENO, &mut head) < 16 {
-        return false;
+    if read_full(rt, &mut head)? < 16 {
+        return Ok(false);
     }
     let case = case_of(&head);
     if MOST < case.n {
-        return false;
+        return Ok(false);
     }
-    answer_rows(case)
+    answer_rows(rt, case)
 }
 
 fn case_of(head: &[u8; 16]) -> Case {
@@ -69,29 +71,30 @@ fn wide(b: u8) -> usize
     b as usize
 }
 
-fn answer_rows(case: Case) -> bool
+fn answer_rows<R: Input + Print>(rt: &R, case: Case) -> io::Result<bool>
     requires { case.n ≤ 4096 }
 {
     let mut rows = [0u8; 24576];
     let mut out = [0u8; 4096];
     let n = case.n;
-    if !read_part(&mut rows, 6 * n) {
-        return false;
+    if !read_part(rt, &mut rows, 6 * n)? {
+        return Ok(false);
     }
     answer(case, &mut out, &rows);
-    write_part(&out, n)
+    write_part(rt, &out, n)?;
+    Ok(true)
 }
 
-fn read_part(rows: &mut [u8], n: usize) -> bool
+fn read_part<R: Input>(rt: &R, rows: &mut [u8], n: usize) -> io::Result<bool>
     requires { n ≤ length rows.old }
 {
-    io::read_full(STDIN_FILENO, &mut rows[..n]) == n
+    Ok(read_full(rt, &mut rows[..n])? == n)
 }
 
-fn write_part(out: &[u8], n: usize) -> bool
+fn write_part<R: Print>(rt: &R, out: &[u8], n: usize) -> io::Result<()>
     requires { n ≤ length out.now }
 {
-    io::write_all(STDOUT_FILENO, &out[..n])
+    rt.write_all(&out[..n])
 }
 
 fn answer(case: Case, out: &mut [u8], rows: &[u8])

@@ -4,39 +4,41 @@
 // Out: the number of the check (of a record: 0 or 6), the ten values of the record, the number and the two halves of its word, the number and value of its super height, and those of its super width.
 #![tactic(auto)]
 
-
 ghost use Rattle.std.specs.Prelude.{◌<◌};
 
 use hex_lines::{bool_at, int_at, put_bool, put_int, put_word, word_at};
-use libc::{STDIN_FILENO, STDOUT_FILENO};
+use input::read_full;
 use settings::refusal::Refusal;
 use settings::super_opts::{Checked, OptBool, OptInt, Packed, Settings, Sized, SuperOpts};
+use std::io;
 
 const RECORD: u32 = 256;
 
-fn main() {
+fn main(rt: HostRuntime) -> io::Result<()> {
     let mut lines: u32 = 0;
     while lines < 4_000_000 {
-        if !answer_one() {
-            return;
+        if !answer_one(&rt)? {
+            return Ok(());
         }
         lines += 1;
     }
+    Ok(())
 }
 
-fn answer_one() -> bool {
+fn answer_one<R: Input + Print>(rt: &R) -> io::Result<bool> {
     let mut case = [0u8; 99];
-    if io::read_full(STDIN_FILENO, &mut case) < 99 {
-        return false;
+    if read_full(rt, &mut case)? < 99 {
+        return Ok(false);
     }
     let mut out = [b' '; 162];
     answer(&case, &mut out);
     out[161] = b'\n';
-    write_line(&out)
+    write_line(rt, &out)?;
+    Ok(true)
 }
 
-fn write_line(out: &[u8; 162]) -> bool {
-    io::write_all(STDOUT_FILENO, out)
+fn write_line<R: Print>(rt: &R, out: &[u8; 162]) -> io::Result<()> {
+    rt.write_all(out)
 }
 
 fn answer(case: &[u8; 99], out: &mut [u8; 162]) {
