@@ -1,7 +1,5 @@
-//! The library from Rust: a safe wrapper and a small program over it. scripts/library compiles and runs it; by hand, on x86-64:
+//! The library from Rust: a safe wrapper and a small program over it. scripts/library compiles and runs it; by hand:
 //!     rustc --edition 2024 examples/rust/sillcandle.rs -L target/staticlib -o out/sillcandle
-//! and on Arm, with the compiler and the linker that scripts/library installs:
-//!     /usr/bin/rustc --edition 2024 --target x86_64-unknown-linux-gnu -C linker=x86_64-linux-gnu-gcc examples/rust/sillcandle.rs -L target/staticlib -o out/sillcandle && qemu-x86_64 out/sillcandle
 //! In a program of your own: `#[path = "examples/rust/sillcandle.rs"] #[allow(dead_code)] mod sillcandle;`: what is private stays so.
 //! Three calls aren't wrapped: sill_accepted, since a `Record` is accepted; sill_super_sizes and sill_clear_margins, which no build needs.
 //! In order: the calls; refusals; settings, `Record` and its longhand; `Word` and what it tells; `Layout` and `Plane`; `Parts` and `Frame`, of three planes; the program.
