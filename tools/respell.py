@@ -48,7 +48,7 @@ def declared(top):
                 if line.lstrip().startswith(("--", "use ", "pub mod", "mod ", "infix")):
                     continue
                 m = DECLARED.match(line)
-                if m and len(m["in"]) in (0, 2):
+                if m:
                     if shallow or not m["in"] and not GOAL.search(m["name"]) and ": tie." not in line and ": goal." not in line:
                         found.setdefault(m["name"], set()).add(os.path.join(*parts))
     return found

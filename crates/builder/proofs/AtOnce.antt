@@ -33,11 +33,11 @@ module _ (t l r : ℕ) where
     abbrev rule : ℕ → ℕ
     rule = mean_at c (l + k) (r + k)
 
-    bytes-laid : (i : ℕ) → i ≤ n → Laid rule c (steps (λ x. byte (k + x)) i c) (t + k) n i
+    bytes_laid : (i : ℕ) → i ≤ n → Laid rule c (steps (λ x. byte (k + x)) i c) (t + k) n i
     unfolding steps
-    bytes-laid zero le = laid_none rule c (t + k) n (omega arith)
-    bytes-laid (suc i) le =
-        let h = bytes-laid i (omega arith) in
+    bytes_laid zero le = laid_none rule c (t + k) n (omega arith)
+    bytes_laid (suc i) le =
+        let h = bytes_laid i (omega arith) in
         let d = steps (λ x. byte (k + x)) i c in
         let at : (s : ℕ) → s + k + i ≡ s + (k + i) = λ s. omega arith in
         let read : (s : ℕ) → s + n ≤ t → get_or d (s + (k + i)) 0 ≡ get_or c (s + k + i) 0 = λ s e. ap (λ (j : ℕ). get_or d j 0) (sym (at s)) ∙ laid_read (s + k + i) h (inl (omega arith)) in
@@ -46,7 +46,7 @@ module _ (t l r : ℕ) where
         (subst (Laid rule c (set d (t + k + i) (mean_at d l r (k + i))) (t + k) n) (add-one i) (laid_more h (omega arith) (omega arith) made))
 
     bytes_run : steps (λ x. byte (k + x)) n c ≡ pair_run (t + k) (l + k) (r + k) n c
-    bytes_run = laid_whole (bytes-laid n (omega arith)) (omega arith) ∙ pair_laid c (t + k) (l + k) (r + k) n
+    bytes_run = laid_whole (bytes_laid n (omega arith)) (omega arith) ∙ pair_laid c (t + k) (l + k) (r + k) n
 
   -- m runs of n bytes
   runs_bytes : (n m : ℕ) (c : List ℕ) → l + n ≤ t → r + n ≤ t → t + m * n ≤ length c → steps (λ y. pair_run (t + y * n) (l + y * n) (r + y * n) n) m c ≡ steps byte (m * n) c
@@ -107,23 +107,23 @@ module _ {i : Interp} (T : Tight i) where
     abbrev Long : List ℕ → Type 0
     Long c = length c ≡ len
 
-    run-keeps : (t l r n : ℕ) (c : List ℕ) → t + n ≤ len → Long c → Long (pair_run t l r n c)
+    run_keeps : (t l r n : ℕ) (c : List ℕ) → t + n ≤ len → Long c → Long (pair_run t l r n c)
     unfolding pair_run
-    run-keeps t l r n c fits e = put_length c t (means_of n (fetch c l n) (fetch c r n)) (omega (arith, means_length n (fetch c l n) (fetch c r n))) ∙ e
+    run_keeps t l r n c fits e = put_length c t (means_of n (fetch c l n) (fetch c r n)) (omega (arith, means_length n (fetch c l n) (fetch c r n))) ∙ e
 
     row_keeps : (t l r : ℕ) → t + size ≤ len → (y : ℕ) (c : List ℕ) → y < i.height → Long c → Long (pair_run (t + y * i.pitch) (l + y * i.pitch) (r + y * i.pitch) (chunked i.width) c)
-    row_keeps t l r fits y c lt e = run-keeps _ _ _ (chunked i.width) c (omega (arith, row_in y i.height i.pitch lt, T.rows)) e
+    row_keeps t l r fits y c lt e = run_keeps _ _ _ (chunked i.width) c (omega (arith, row_in y i.height i.pitch lt, T.rows)) e
 
-    plane-keeps : (t l r : ℕ) → t + size ≤ len → (c : List ℕ) → Long c → Long (pair_plane i t l r c)
+    plane_keeps : (t l r : ℕ) → t + size ≤ len → (c : List ℕ) → Long c → Long (pair_plane i t l r c)
     unfolding pair_plane
-    plane-keeps t l r fits c e = steps_keep Long _ i.height c (row_keeps t l r fits) e
+    plane_keeps t l r fits c e = steps_keep Long _ i.height c (row_keeps t l r fits) e
 
-    block-keeps : (t r : ℕ) → t + size ≤ len → (k : ℕ) (c : List ℕ) → k < count → Long c → Long (block t r k c)
-    block-keeps t r fits k c lt e = run-keeps (t + k * 64) (0 + k * 64) (r + k * 64) 64 c (omega (arith, block_in k lt)) e
+    block_keeps : (t r : ℕ) → t + size ≤ len → (k : ℕ) (c : List ℕ) → k < count → Long c → Long (block t r k c)
+    block_keeps t r fits k c lt e = run_keeps (t + k * 64) (0 + k * 64) (r + k * 64) 64 c (omega (arith, block_in k lt)) e
 
     -- a later block of the plane at t, and an earlier one of a plane at u past it
-    blocks-swap : (t r u s : ℕ) → size ≤ t → t + size ≤ u → u + size ≤ len → r ≤ i.pitch + 1 → s ≤ i.pitch + 1 → (k j : ℕ) (c : List ℕ) → k < j → j < count → Long c → block t r j (block u s k c) ≡ block u s k (block t r j c)
-    blocks-swap t r u s after past fits near near' k j c lt in' e =
+    blocks_swap : (t r u s : ℕ) → size ≤ t → t + size ≤ u → u + size ≤ len → r ≤ i.pitch + 1 → s ≤ i.pitch + 1 → (k j : ℕ) (c : List ℕ) → k < j → j < count → Long c → block t r j (block u s k c) ≡ block u s k (block t r j c)
+    blocks_swap t r u s after past fits near near' k j c lt in' e =
         let first = row_in k j 64 lt in
         let last = block_in j in' in
         sym
@@ -134,19 +134,19 @@ module _ {i : Interp} (T : Tight i) where
     in_blocks c e =
         let p = i.pitch in
         let inside = S.inside in
-        let ka = block-keeps a 1 (omega (arith, S.second, S.third)) in
-        let kb = block-keeps b p (omega (arith, S.third)) in
-        let kd = block-keeps d (p + 1) inside in
+        let ka = block_keeps a 1 (omega (arith, S.second, S.third)) in
+        let kb = block_keeps b p (omega (arith, S.third)) in
+        let kd = block_keeps d (p + 1) inside in
         let ca = steps (block a 1) count c in
         let cb = steps (block b p) count ca in
         let ea = steps_keep Long (block a 1) count c ka e in
         let eb = steps_keep Long (block b p) count ca kb ea in
         steps_two Long (block a 1) (λ k x. block d (p + 1) k (block b p k x)) count ka (λ k x lt q. kd k (block b p k x) lt (kb k x lt q))
         (λ k j x lt in' q.
-        blocks-swap a 1 d (p + 1) S.first (omega (arith, S.second, S.third)) inside (omega arith) (omega arith) k j (block b p k x) lt in' (kb k x (omega arith) q)
-        ∙ ap (block d (p + 1) k) (blocks-swap a 1 b p S.first S.second (omega (arith, S.third)) (omega arith) (omega arith) k j x lt in' q))
+        blocks_swap a 1 d (p + 1) S.first (omega (arith, S.second, S.third)) inside (omega arith) (omega arith) k j (block b p k x) lt in' (kb k x (omega arith) q)
+        ∙ ap (block d (p + 1) k) (blocks_swap a 1 b p S.first S.second (omega (arith, S.third)) (omega arith) (omega arith) k j x lt in' q))
         c e
-        ∙ steps_two Long (block b p) (block d (p + 1)) count kb kd (blocks-swap b p d (p + 1) (omega (arith, S.first, S.second)) S.third inside (omega arith) (omega arith)) ca ea
+        ∙ steps_two Long (block b p) (block d (p + 1)) count kb kd (blocks_swap b p d (p + 1) (omega (arith, S.first, S.second)) S.third inside (omega arith) (omega arith)) ca ea
         ∙ plane_blocks d (p + 1) cb (omega (arith, T.near, S.first, S.second, S.third)) (omega (arith, T.near, S.first, S.second, S.third)) (omega (arith, eb))
         ∙ ap (pair_plane i d 0 (p + 1)) (plane_blocks b p ca (omega (arith, T.near, S.first, S.second)) (omega (arith, T.near, S.first, S.second)) (omega (arith, ea, S.third)))
         ∙ ap (λ (x : List ℕ). pair_plane i d 0 (p + 1) (pair_plane i b 0 p x)) (plane_blocks a 1 c (omega (arith, T.near, S.first)) (omega (arith, T.near, S.first)) (omega (arith, S.second, S.third)))
@@ -155,9 +155,9 @@ module _ {i : Interp} (T : Tight i) where
     abbrev row : ℕ → List ℕ → List ℕ
     row y = pair_run (d + y * i.pitch) (0 + y * i.pitch) (i.pitch + 1 + y * i.pitch) (chunked i.width)
 
-    row-swap : i.width ≤ i.pitch → (y : ℕ) (c : List ℕ) → y < i.height → Long c → copy_run 0 b i.width (row y c) ≡ row y (copy_run 0 b i.width c)
+    row_swap : i.width ≤ i.pitch → (y : ℕ) (c : List ℕ) → y < i.height → Long c → copy_run 0 b i.width (row y c) ≡ row y (copy_run 0 b i.width c)
     unfolding pair_run copy_run
-    row-swap fits y c lt e =
+    row_swap fits y c lt e =
         let n = chunked i.width in
         let p = i.pitch in
         let r = row_in y i.height p lt in
@@ -167,16 +167,16 @@ module _ {i : Interp} (T : Tight i) where
         (means_read c _ b (0 + y * p) (p + 1 + y * p) n (omega (arith, T.rows, S.first, S.second, r)) (omega (arith, T.rows, T.near, S.first, S.second, r)))
         (fetch_before c _ (d + y * p) 0 i.width (omega (arith, S.third, r))))
 
-    copy-swap : i.width ≤ i.pitch → (c : List ℕ) → Long c → copy_run 0 b i.width (pair_plane i d 0 (i.pitch + 1) c) ≡ pair_plane i d 0 (i.pitch + 1) (copy_run 0 b i.width c)
+    copy_swap : i.width ≤ i.pitch → (c : List ℕ) → Long c → copy_run 0 b i.width (pair_plane i d 0 (i.pitch + 1) c) ≡ pair_plane i d 0 (i.pitch + 1) (copy_run 0 b i.width c)
     unfolding pair_plane
-    copy-swap fits c e = steps_past Long (copy_run 0 b i.width) row i.height (row_keeps d 0 (i.pitch + 1) S.inside) (row-swap fits) c e
+    copy_swap fits c e = steps_past Long (copy_run 0 b i.width) row i.height (row_keeps d 0 (i.pitch + 1) S.inside) (row_swap fits) c e
 
     -- the stages in the order in which they are made
-    pub once-stages : i.width ≤ i.pitch → (c c1 c2 c3 : List ℕ) → Long c → c1 ≡ c ▷ pair_plane i a 0 1 ▷ pair_plane i b 0 i.pitch ▷ pair_plane i d 0 (i.pitch + 1) → c2 ≡ copy_run 0 b i.width c1 → c3 ≡ copy_run 1 d i.width c2 → c3 ≡ c ▷ pair_plane i a 0 1 ▷ pair_plane i b 0 i.pitch ▷ copy_run 0 b i.width ▷ pair_plane i d 0 (i.pitch + 1) ▷ copy_run 1 d i.width
-    once-stages fits c c1 c2 c3 e e1 e2 e3 =
-        let ka = plane-keeps a 0 1 (omega (arith, S.second, S.third, S.inside)) in
-        let kb = plane-keeps b 0 i.pitch (omega (arith, S.third, S.inside)) in
-        e3 ∙ ap (copy_run 1 d i.width) (e2 ∙ ap (copy_run 0 b i.width) e1 ∙ copy-swap fits (c ▷ pair_plane i a 0 1 ▷ pair_plane i b 0 i.pitch) (kb _ (ka c e)))
+    pub once_stages : i.width ≤ i.pitch → (c c1 c2 c3 : List ℕ) → Long c → c1 ≡ c ▷ pair_plane i a 0 1 ▷ pair_plane i b 0 i.pitch ▷ pair_plane i d 0 (i.pitch + 1) → c2 ≡ copy_run 0 b i.width c1 → c3 ≡ copy_run 1 d i.width c2 → c3 ≡ c ▷ pair_plane i a 0 1 ▷ pair_plane i b 0 i.pitch ▷ copy_run 0 b i.width ▷ pair_plane i d 0 (i.pitch + 1) ▷ copy_run 1 d i.width
+    once_stages fits c c1 c2 c3 e e1 e2 e3 =
+        let ka = plane_keeps a 0 1 (omega (arith, S.second, S.third, S.inside)) in
+        let kb = plane_keeps b 0 i.pitch (omega (arith, S.third, S.inside)) in
+        e3 ∙ ap (copy_run 1 d i.width) (e2 ∙ ap (copy_run 0 b i.width) e1 ∙ copy_swap fits (c ▷ pair_plane i a 0 1 ▷ pair_plane i b 0 i.pitch) (kb _ (ka c e)))
 
 -- ---- the planes by their numbers
 -- what is tested: the chunks of a row, and the places of a plane

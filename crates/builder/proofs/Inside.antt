@@ -16,7 +16,7 @@ use Rattle.builder.specs.Room.{Within, Planes, Halves, Tight}
 use Rattle.builder.proofs.Runs.{fetch_left, put_length, put_left}
 use Rattle.builder.proofs.Related.{Same, same_bytes, same_kernel, rel_same, same_row}
 use Rattle.builder.proofs.Stages.{Keeps, Notion, copy_kept, pair_run_kept}
-use Rattle.builder.proofs.Placed.{Allows, stored-placed, fused-placed, kernel_placed, tight_placed}
+use Rattle.builder.proofs.Placed.{Allows, stored_placed, fused_placed, kernel_placed, tight_placed}
 
 -- what the stage makes of len bytes, it makes of them with S after them too
 pub record Inside (len : ℕ) (stage : List ℕ → List ℕ) : Type 0 where
@@ -58,10 +58,10 @@ means_inside len t l r n left right to = inside_by (λ S. let A = beside_allows 
 
 module _ {len scratch base p : ℕ} {t : Region} (w : Within len scratch base p t) where
   pub inside_stored : (f : ReduceFilter) → Inside len (from_stored f base p t)
-  inside_stored f = inside_by (λ S. stored-placed same_bytes (beside_allows len S) w f)
+  inside_stored f = inside_by (λ S. stored_placed same_bytes (beside_allows len S) w f)
 
   pub inside_fused : Inside len (fused base p t)
-  inside_fused = inside_by (λ S. fused-placed same_bytes (beside_allows len S) w)
+  inside_fused = inside_by (λ S. fused_placed same_bytes (beside_allows len S) w)
 
 pub kernel_inside : (k : HalfPel) (len scratch : ℕ) (i : Interp) (a b d : ℕ) → Halves a b d → Planes (d + 1) len scratch i → Inside len (kernel_planes k i a b d)
 kernel_inside k len scratch i a b d h P = inside_by (λ S. kernel_placed same_bytes (beside_allows len S) k (same_kernel k) a b d h P)

@@ -24,7 +24,7 @@ use Rattle.builder.proofs.Halves.{row_within, source_within, halves_within}
 use Rattle.builder.proofs.Refined.{plane_fits, pair_fits, first_row_fits, horizontal_fits, vertical_fits, halves_two, halves_four, pel_four, planes_at, planes_fewer, quarter_fits, table_row}
 use Rattle.builder.proofs.Spreads.{spread_at, closed_row}
 use Rattle.builder.proofs.Related.{Bytes, Kernels, Ups, Rel}
-use Rattle.builder.proofs.Stages.{Respects, Keeps, Notion, OneNeed, PairNeed, UnderNeed, folds, stored_kept, fused_kept, source_kept, pair_kept, means_kept, kernel-kept, refine_kept}
+use Rattle.builder.proofs.Stages.{Respects, Keeps, Notion, OneNeed, PairNeed, UnderNeed, folds, stored_kept, fused_kept, source_kept, pair_kept, means_kept, kernel_kept, refine_kept}
 
 -- whatever lies in len bytes may be read and stored
 pub record Allows {E : ℕ → ℕ → Type 0} (N : Notion E) (len : ℕ) : Type 0 where
@@ -37,13 +37,13 @@ allows_less le A = record { sees = λ at n fits. A.sees at n (omega arith); take
 -- ---- inside the frame
 module _ {E : ℕ → ℕ → Type 0} (B : Bytes E) {N : Notion E} {len : ℕ} (A : Allows N len) where
   module _ {scratch base p : ℕ} {t : Region} (w : Within len scratch base p t) where
-    pub stored-placed : (f : ReduceFilter) → Keeps N.R (from_stored f base p t)
-    stored-placed f =
+    pub stored_placed : (f : ReduceFilter) → Keeps N.R (from_stored f base p t)
+    stored_placed f =
         let k = whole_or f (2 * t.width) in
         stored_kept B N f base p t (λ y lt. A.takes _ _ (halves_within w lt)) (λ y lt. A.sees _ _ (halves_within w lt)) (λ y lt. line_reads A.sees f k.0 k.1 (source_within w refl) lt)
 
-    pub fused-placed : Keeps N.R (fused base p t)
-    fused-placed = fused_kept B N base p t w.fits (λ y lt. A.takes _ _ (row_within w lt)) (λ y lt. line_reads A.sees Cubic (omega arith) (inl refl) (source_within w refl) lt)
+    pub fused_placed : Keeps N.R (fused base p t)
+    fused_placed = fused_kept B N base p t w.fits (λ y lt. A.takes _ _ (row_within w lt)) (λ y lt. line_reads A.sees Cubic (omega arith) (inl refl) (source_within w refl) lt)
 
   one_placed : {scratch rows t s : ℕ} {i : Interp} → OnePlane len scratch rows i t s → OneNeed N i rows t s
   one_placed {rows = rows} {t = t} {s = s} {i = i} o =
@@ -54,7 +54,7 @@ module _ {E : ℕ → ℕ → Type 0} (B : Bytes E) {N : Notion E} {len : ℕ} (
 
   pub kernel_placed : {scratch : ℕ} {i : Interp} (k : HalfPel) → Kernels E k → (a b d : ℕ) → Halves a b d → Planes (d + 1) len scratch i → Keeps N.R (kernel_planes k i a b d)
   kernel_placed {i = i} k K a b d h P =
-      kernel-kept B N k K i a b d
+      kernel_kept B N k K i a b d
       (one_placed (horizontal_fits P a (plane_at i a) 0 0 (omega (arith, h.across, h.below)) refl (omega arith) (omega arith)))
       (one_placed (vertical_fits P b (plane_at i b) (omega (arith, h.below)) (omega (arith, h.first, h.across, h.below)) refl))
       (one_placed (horizontal_fits P d (plane_at i d) b (plane_at i b) (omega arith) refl (omega (arith, h.below)) refl))
@@ -98,17 +98,17 @@ module _ {E : ℕ → ℕ → Type 0} (B : Bytes E) {N : Notion E} (len spill : 
       }
 
   module _ {scratch : ℕ} {i : Interp} (beyond : 16 ≤ spill) where
-    half-placed : (u : Upscale) → Ups E u → (a b d : ℕ) → Halves a b d → Planes (d + 1) len scratch i → Keeps N.R (half_planes u i a b d)
+    half_placed : (u : Upscale) → Ups E u → (a b d : ℕ) → Halves a b d → Planes (d + 1) len scratch i → Keeps N.R (half_planes u i a b d)
     unfolding half_planes
-    half-placed Means z a b d h P =
+    half_placed Means z a b d h P =
         means_placed B (allows_less (omega arith) A) a b d h P (λ j x lt near. pair_placed (pair_fits P j (plane_at i j) x spill lt (omega (arith, h.below)) refl near beyond))
-    half-placed (Kernel k) K a b d h P = kernel_placed B (allows_less (omega arith) A) k K a b d h P
+    half_placed (Kernel k) K a b d h P = kernel_placed B (allows_less (omega arith) A) k K a b d h P
 
-    pub refine-placed : (u : Upscale) → Ups E u → (pel : ℕ) → (pel ≡ 2) ⊎ (pel ≡ 4) → Planes (pel * pel) len scratch i → Keeps N.R (refine i pel u)
+    pub refine_placed : (u : Upscale) → Ups E u → (pel : ℕ) → (pel ≡ 2) ⊎ (pel ≡ 4) → Planes (pel * pel) len scratch i → Keeps N.R (refine i pel u)
     unfolding quarter
-    refine-placed u z pel known P =
+    refine_placed u z pel known P =
         let four : eqb pel 2 ≡ false → Planes 16 len scratch i = λ e. planes_at (pel_four known (eqb-false pel 2 e)) P in
         refine_kept i pel u
-        (λ e. half-placed u z 1 2 3 halves_two (planes_at (eqb-true pel 2 e) P))
-        (λ e. half-placed u z 2 8 10 halves_four (planes_fewer (four e) (omega arith)))
+        (λ e. half_placed u z 1 2 3 halves_two (planes_at (eqb-true pel 2 e) P))
+        (λ e. half_placed u z 2 8 10 halves_four (planes_fewer (four e) (omega arith)))
         (λ e. folds (quarter i) pairs (λ k lt. pair_kept B N _ _ _ _ (pair_placed (quarter_fits spill _ _ _ (four e) (table_row k lt) beyond refl refl refl))))

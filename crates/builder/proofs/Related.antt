@@ -136,9 +136,9 @@ module _ {E : ℕ → ℕ → Type 0} (B : Bytes E) where
 
   -- ---- a row before it is halved, of s and of u, whose rows are in the relation where they are read
   module _ (s u : List ℕ) {Ok : ℕ → ℕ → Type 0} (ok : (at n : ℕ) → Ok at n → Rel E (fetch s at n) (fetch u at n)) where
-    rel-inner : (f : ReduceFilter) (whole n at sp : ℕ) → InnerReads Ok f whole n at sp → Rel E (inner_line f whole n s at sp) (inner_line f whole n u at sp)
+    rel_inner : (f : ReduceFilter) (whole n at sp : ℕ) → InnerReads Ok f whole n at sp → Rel E (inner_line f whole n s at sp) (inner_line f whole n u at sp)
     unfolding inner_line whole_line rest_line sixes
-    rel-inner f whole n at sp r =
+    rel_inner f whole n at sp r =
         rel_append (whole_line f whole s at sp) _ (whole_line f whole u at sp) _ (whole_length f whole s at sp ∙ sym (whole_length f whole u at sp))
         (rel_tab _ _ whole (λ i lt. B.weighs f _ _ _ _ _ _ _ _ _ _ _ _ (λ z. (ok _ _ (r.m2 z)).at i) ((ok _ _ r.m1).at i) ((ok _ _ r.c0).at i) ((ok _ _ r.p1).at i) (λ z. (ok _ _ (r.p2 z)).at i) (λ z. (ok _ _ (r.p3 z)).at i)))
         (rel_tab _ _ (n - whole)
@@ -146,10 +146,10 @@ module _ {E : ℕ → ℕ → Type 0} (B : Bytes E) where
         let some : whole < n = omega arith in
         rests _ _ _ _ _ _ _ _ _ _ _ _ ((ok _ _ (r.ra some)).at i) ((ok _ _ (r.r1 some)).at i) ((ok _ _ (r.r2 some)).at i) ((ok _ _ (r.r3 some)).at i) ((ok _ _ (r.rb some)).at i) ((ok _ _ (r.rc some)).at i)))
 
-    pub rel-line : (f : ReduceFilter) (whole n h base sp y : ℕ) → LineReads Ok f whole n h base sp y → Rel E (vertical_line f whole n h s base sp y) (vertical_line f whole n h u base sp y)
+    pub rel_line : (f : ReduceFilter) (whole n h base sp y : ℕ) → LineReads Ok f whole n h base sp y → Rel E (vertical_line f whole n h s base sp y) (vertical_line f whole n h u base sp y)
     unfolding vertical_line
-    rel-line f whole n h base sp y r =
-        rel_cond (is_edge f y h) (λ e. rel_means n _ _ _ _ (ok _ _ (r.first e)) (ok _ _ (r.second e))) (λ e. rel-inner f whole n (base + y * (2 * sp)) sp (r.inner e))
+    rel_line f whole n h base sp y r =
+        rel_cond (is_edge f y h) (λ e. rel_means n _ _ _ _ (ok _ _ (r.first e)) (ok _ _ (r.second e))) (λ e. rel_inner f whole n (base + y * (2 * sp)) sp (r.inner e))
 
   pub rel_fused : (p w : ℕ) (v u : List ℕ) → length v ≡ length u → Rel E v u → Rel E (fused_line p w v) (fused_line p w u)
   rel_fused p w v u e r =
@@ -163,13 +163,13 @@ module _ {E : ℕ → ℕ → Type 0} (B : Bytes E) where
     at_place i n m2 m1 c0 p1 p2 p3 x2 x1 x0 y1 y2 y3 a b c d e f =
         by_test E (leb n (i + 1)) _ _ _ _ c (by_test E (near_edge k i n) _ _ _ _ (B.mean c0 p1 x0 y1 c d) (K.halves m2 m1 c0 p1 p2 p3 x2 x1 x0 y1 y2 y3 a b c d e f))
 
-    pub rel-across : (n : ℕ) (r s : List ℕ) → Rel E r s → Rel E (half_horizontal k n r) (half_horizontal k n s)
+    pub rel_across : (n : ℕ) (r s : List ℕ) → Rel E r s → Rel E (half_horizontal k n r) (half_horizontal k n s)
     unfolding half_horizontal
-    rel-across n r s t = rel_tab _ _ n (λ i lt. at_place i n _ _ _ _ _ _ _ _ _ _ _ _ (t.at (i - 2)) (t.at (i - 1)) (t.at i) (t.at (i + 1)) (t.at (i + 2)) (t.at (i + 3)))
+    rel_across n r s t = rel_tab _ _ n (λ i lt. at_place i n _ _ _ _ _ _ _ _ _ _ _ _ (t.at (i - 2)) (t.at (i - 1)) (t.at i) (t.at (i + 1)) (t.at (i + 2)) (t.at (i + 3)))
 
-    pub rel-below : (y h n : ℕ) (m2 m1 c0 p1 p2 p3 x2 x1 x0 y1 y2 y3 : List ℕ) → Rel E m2 x2 → Rel E m1 x1 → Rel E c0 x0 → Rel E p1 y1 → Rel E p2 y2 → Rel E p3 y3 → Rel E (half_vertical k y h n m2 m1 c0 p1 p2 p3) (half_vertical k y h n x2 x1 x0 y1 y2 y3)
+    pub rel_below : (y h n : ℕ) (m2 m1 c0 p1 p2 p3 x2 x1 x0 y1 y2 y3 : List ℕ) → Rel E m2 x2 → Rel E m1 x1 → Rel E c0 x0 → Rel E p1 y1 → Rel E p2 y2 → Rel E p3 y3 → Rel E (half_vertical k y h n m2 m1 c0 p1 p2 p3) (half_vertical k y h n x2 x1 x0 y1 y2 y3)
     unfolding half_vertical sixes
-    rel-below y h n m2 m1 c0 p1 p2 p3 x2 x1 x0 y1 y2 y3 a b c d e f = rel_tab _ _ n (λ i lt. at_place y h _ _ _ _ _ _ _ _ _ _ _ _ (a.at i) (b.at i) (c.at i) (d.at i) (e.at i) (f.at i))
+    rel_below y h n m2 m1 c0 p1 p2 p3 x2 x1 x0 y1 y2 y3 a b c d e f = rel_tab _ _ n (λ i lt. at_place y h _ _ _ _ _ _ _ _ _ _ _ _ (a.at i) (b.at i) (c.at i) (d.at i) (e.at i) (f.at i))
 
 -- ---- whatever the bytes are
 abbrev pub Any : ℕ → ℕ → Type 0

@@ -22,7 +22,7 @@ use Rattle.builder.specs.Refining.{chunked, pair_run, pair_plane, horizontal_pla
 use Rattle.builder.proofs.Runs.{fetch_length}
 use Rattle.builder.proofs.Lines.{LineReads, reads_all, line_length, whole_or}
 use Rattle.builder.proofs.Halves.{fused_length}
-use Rattle.builder.proofs.Related.{Bytes, Kernels, Rel, rel_fetch, rel_means, rel_horizontal, rel-line, rel_fused, rel-across, rel-below}
+use Rattle.builder.proofs.Related.{Bytes, Kernels, Rel, rel_fetch, rel_means, rel_horizontal, rel_line, rel_fused, rel_across, rel_below}
 
 -- ---- stages that keep a relation of canvases: two of them, each on its canvas
 pub record Respects (R : List ℕ → List ℕ → Type 0) (f g : List ℕ → List ℕ) : Type 0 where
@@ -106,18 +106,18 @@ module _ {E : ℕ → ℕ → Type 0} (N : Notion E) where
 module _ {E : ℕ → ℕ → Type 0} (B : Bytes E) (N : Notion E) where
   -- ---- later levels; what is seen is the canvas, or the source plane
   module _ (f : ReduceFilter) (t : Region) (step : ℕ) (takes : Rows N.Takes t.height t.offset step (2 * t.width)) where
-    vertical-kept : {Ok : ℕ → ℕ → Type 0} (see see' : List ℕ → List ℕ) (base sp : ℕ) → ((c d : List ℕ) → N.R c d → (a k : ℕ) → Ok a k → Rel E (fetch (see c) a k) (fetch (see' d) a k)) → LevelReads Ok f (whole_of f (2 * t.width)) base sp t → Respects N.R (vertical_rows f see base sp t step) (vertical_rows f see' base sp t step)
+    vertical_kept : {Ok : ℕ → ℕ → Type 0} (see see' : List ℕ → List ℕ) (base sp : ℕ) → ((c d : List ℕ) → N.R c d → (a k : ℕ) → Ok a k → Rel E (fetch (see c) a k) (fetch (see' d) a k)) → LevelReads Ok f (whole_of f (2 * t.width)) base sp t → Respects N.R (vertical_rows f see base sp t step) (vertical_rows f see' base sp t step)
     unfolding vertical_rows
-    vertical-kept see see' base sp seen lines =
+    vertical_kept see see' base sp seen lines =
         let n = 2 * t.width in
         let h = t.height in
         let whole = whole_of f n in
         let long : (y : ℕ) (s : List ℕ) → length (vertical_line f whole n h s base sp y) ≡ n = λ y s. line_length f whole n h s base sp y (whole_or f n).0 in
-        rows_kept N h t.offset step n _ _ takes (λ y c. long y (see c)) (λ y c. long y (see' c)) (λ y lt c d r. rel-line B (see c) (see' d) (seen c d r) f whole n h base sp y (lines y lt))
+        rows_kept N h t.offset step n _ _ takes (λ y c. long y (see c)) (λ y c. long y (see' c)) (λ y lt c d r. rel_line B (see c) (see' d) (seen c d r) f whole n h base sp y (lines y lt))
 
-    horizontal-kept : Rows N.Sees t.height t.offset step (2 * t.width) → Keeps N.R (horizontal_rows f t step)
+    horizontal_kept : Rows N.Sees t.height t.offset step (2 * t.width) → Keeps N.R (horizontal_rows f t step)
     unfolding horizontal_rows halve_run
-    horizontal-kept sees =
+    horizontal_kept sees =
         let w = t.width in
         let n = 2 * w in
         rows_kept N t.height t.offset step w _ _ (λ y lt. N.fewer (t.offset + y * step) w n (omega arith) (takes y lt)) (λ y c. horizontal_length f w _) (λ y c. horizontal_length f w _)
@@ -128,7 +128,7 @@ module _ {E : ℕ → ℕ → Type 0} (B : Bytes E) (N : Notion E) where
   pub stored_kept : (f : ReduceFilter) (base p : ℕ) (t : Region) → Rows N.Takes t.height t.offset p (2 * t.width) → Rows N.Sees t.height t.offset p (2 * t.width) → LevelReads N.Sees f (whole_of f (2 * t.width)) base p t → Keeps N.R (from_stored f base p t)
   unfolding from_stored
   stored_kept f base p t takes sees lines =
-      after (vertical-kept f t p takes (λ d. d) (λ d. d) base p (λ c d r a k s. N.reads c d a k r s) lines) (horizontal-kept f t p takes sees)
+      after (vertical_kept f t p takes (λ d. d) (λ d. d) base p (λ c d r a k s. N.reads c d a k r s) lines) (horizontal_kept f t p takes sees)
 
   pub fused_kept : (base p : ℕ) (t : Region) → 2 * t.width ≤ p → Rows N.Takes t.height t.offset p p → LevelReads N.Sees Cubic (2 * t.width) base p t → Keeps N.R (fused base p t)
   unfolding fused
@@ -140,7 +140,7 @@ module _ {E : ℕ → ℕ → Type 0} (B : Bytes E) (N : Notion E) where
       let long : (y : ℕ) (c : List ℕ) → length (line y c) ≡ n = λ y c. line_length Cubic n n h c base p y (omega arith) in
       let all : (y : ℕ) (c : List ℕ) → length (fused_line p w (line y c)) ≡ p = λ y c. fused_length p w (line y c) fits (long y c) in
       rows_kept N h t.offset p p _ _ takes all all
-      (λ y lt c d r. rel_fused B p w (line y c) (line y d) (long y c ∙ sym (long y d)) (rel-line B c d (λ a k s. N.reads c d a k r s) Cubic n n h base p y (lines y lt)))
+      (λ y lt c d r. rel_fused B p w (line y c) (line y d) (long y c ∙ sym (long y d)) (rel_line B c d (λ a k s. N.reads c d a k r s) Cubic n n h base p y (lines y lt)))
 
   pub close_kept : (t p h : ℕ) → CloseNeed N t p h → Keeps N.R (close_up t p h)
   unfolding close_up
@@ -151,8 +151,8 @@ module _ {E : ℕ → ℕ → Type 0} (B : Bytes E) (N : Notion E) where
   source_kept f src src' sp p t same takes sees line =
       after
       (after
-      (vertical-kept f t (2 * p) takes {Ok = λ a k. Unit} (λ d. src) (λ d. src') 0 sp (λ c d r a k z. rel_fetch B src src' a k same) (λ y lt. reads_all (λ a k. tt)))
-      (horizontal-kept f t (2 * p) takes sees))
+      (vertical_kept f t (2 * p) takes {Ok = λ a k. Unit} (λ d. src) (λ d. src') 0 sp (λ c d r a k z. rel_fetch B src src' a k same) (λ y lt. reads_all (λ a k. tt)))
+      (horizontal_kept f t (2 * p) takes sees))
       (close_kept t.offset p t.height line)
 
   -- ---- planes of level 0
@@ -172,25 +172,25 @@ module _ {E : ℕ → ℕ → Type 0} (B : Bytes E) (N : Notion E) where
   means_kept i a b d P Q S = after (after (pair_kept i (plane_at i a) 0 1 P) (under_kept i (plane_at i b) i.pitch 0 Q)) (under_kept i (plane_at i d) (i.pitch + 1) 1 S)
 
   module _ (k : HalfPel) (K : Kernels E k) (i : Interp) where
-    pub across-kept : (t s : ℕ) → OneNeed N i i.height t s → Keeps N.R (horizontal_plane k i t s)
+    pub across_kept : (t s : ℕ) → OneNeed N i i.height t s → Keeps N.R (horizontal_plane k i t s)
     unfolding horizontal_plane
-    across-kept t s P =
+    across_kept t s P =
         let w = i.width in
-        rows_kept N i.height t i.pitch w _ _ P.target (λ y c. half_horizontal_length k w _) (λ y c. half_horizontal_length k w _) (λ y lt c d r. rel-across B k K w _ _ (N.reads c d (s + y * i.pitch) w r (P.source y lt)))
+        rows_kept N i.height t i.pitch w _ _ P.target (λ y c. half_horizontal_length k w _) (λ y c. half_horizontal_length k w _) (λ y lt c d r. rel_across B k K w _ _ (N.reads c d (s + y * i.pitch) w r (P.source y lt)))
 
-    pub below-kept : (t s : ℕ) → OneNeed N i (i.height + 3) t s → Keeps N.R (vertical_plane k i t s)
+    pub below_kept : (t s : ℕ) → OneNeed N i (i.height + 3) t s → Keeps N.R (vertical_plane k i t s)
     unfolding vertical_plane vertical_run
-    below-kept t s P =
+    below_kept t s P =
         let h = i.height in
         let w = i.width in
         rows_kept N h t i.pitch w _ _ P.target (λ y c. half_vertical_length k y h w _ _ _ _ _ _) (λ y c. half_vertical_length k y h w _ _ _ _ _ _)
         (λ y lt c d r.
         let row : (j : ℕ) → j < h + 3 → Rel E (fetch c (s + j * i.pitch) w) (fetch d (s + j * i.pitch) w) = λ j l. N.reads c d (s + j * i.pitch) w r (P.source j l) in
-        rel-below B k K y h w _ _ _ _ _ _ _ _ _ _ _ _ (row (y - 2) (omega arith)) (row (y - 1) (omega arith)) (row y (omega arith)) (row (y + 1) (omega arith)) (row (y + 2) (omega arith)) (row (y + 3) (omega arith)))
+        rel_below B k K y h w _ _ _ _ _ _ _ _ _ _ _ _ (row (y - 2) (omega arith)) (row (y - 1) (omega arith)) (row y (omega arith)) (row (y + 1) (omega arith)) (row (y + 2) (omega arith)) (row (y + 3) (omega arith)))
 
-    pub kernel-kept : (a b d : ℕ) → OneNeed N i i.height (plane_at i a) 0 → OneNeed N i (i.height + 3) (plane_at i b) 0 → OneNeed N i i.height (plane_at i d) (plane_at i b) → Keeps N.R (kernel_planes k i a b d)
+    pub kernel_kept : (a b d : ℕ) → OneNeed N i i.height (plane_at i a) 0 → OneNeed N i (i.height + 3) (plane_at i b) 0 → OneNeed N i i.height (plane_at i d) (plane_at i b) → Keeps N.R (kernel_planes k i a b d)
     unfolding kernel_planes
-    kernel-kept a b d P Q S = after (after (across-kept (plane_at i a) 0 P) (below-kept (plane_at i b) 0 Q)) (across-kept (plane_at i d) (plane_at i b) S)
+    kernel_kept a b d P Q S = after (after (across_kept (plane_at i a) 0 P) (below_kept (plane_at i b) 0 Q)) (across_kept (plane_at i d) (plane_at i b) S)
 
 pub refine_kept : {R : List ℕ → List ℕ → Type 0} (i : Interp) (pel : ℕ) (u : Upscale) → (eqb pel 2 ≡ true → Keeps R (half_planes u i 1 2 3)) → (eqb pel 2 ≡ false → Keeps R (half_planes u i 2 8 10)) → (eqb pel 2 ≡ false → Keeps R (fold_pairs (quarter i) pairs)) → Keeps R (refine i pel u)
 unfolding refine

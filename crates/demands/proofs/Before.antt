@@ -171,10 +171,10 @@ down_before z c k i s y =
     let d3 = shifted z c (a + 3 * p) (s + (y + 3) * p) w (omega (arith, add-mul y 3 p)) in
     rw (e0, d1, d2, d3)
     (rows_before k y i.height w (fetch c (s + y * p) w) (fetch c (s + (y + 1) * p) w) (fetch c (s + (y + 2) * p) w) (fetch c (s + (y + 3) * p) w)
-    (λ le. shifted z c (a - 2 * p) (s + (y - 2) * p) w (rows-up y 2 p le))
-    (λ le. shifted z c (a - p) (s + (y - 1) * p) w (omega (arith, rows-up y 1 p le))))
+    (λ le. shifted z c (a - 2 * p) (s + (y - 2) * p) w (rows_up y 2 p le))
+    (λ le. shifted z c (a - p) (s + (y - 1) * p) w (omega (arith, rows_up y 1 p le))))
   where
-    rows-up : (y j p : ℕ) → j ≤ y → length z + s + y * p - j * p ≡ length z + (s + (y - j) * p)
-    rows-up y j p le =
+    rows_up : (y j p : ℕ) → j ≤ y → length z + s + y * p - j * p ≡ length z + (s + (y - j) * p)
+    rows_up y j p le =
         let back : y - j + j ≡ y = omega arith in
         omega (arith, add-mul (y - j) j p, ap (λ (k : ℕ). k * p) back)

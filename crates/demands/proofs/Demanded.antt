@@ -35,7 +35,7 @@ use Rattle.builder.specs.Refining.{plane_at}
 use Rattle.planes.specs.Build.{planes_of}
 use Rattle.demands.specs.Demands.{SameBuild, Differ, with_down, with_up, HalvingDiffers, UpscaleDiffers, Demand3, Builds, leaves, Leaves}
 use Rattle.demands.proofs.Same.{offset_same, down_same, up_same, one_there}
-use Rattle.demands.proofs.Witness.{Placed, sizes, luma, flat, w_is, h_is, unwritten, written, last-means, last-kernel}
+use Rattle.demands.proofs.Witness.{Placed, sizes, luma, flat, w_is, h_is, unwritten, written, last_means, last_kernel}
 
 -- ---- the plane is built
 pub then_none : (m n : ℕ) → m ≡ 0 → n ≡ 0 → (m then n) ≡ 0
@@ -185,7 +185,7 @@ module _ (v : ℕ) (r : SuperOpts) (p : Packs v r) where
         p0,
         p1,
         differ_on Z Y (builds_flat Z p0.good lv end eZ) (builds_flat Y p1.good lv end eY)
-            (different (leaves Z (flat r end)) (leaves Y (flat r end)) i i 128 255 refl (last-means Z p0.good lv end eZ on a at upscale_0) (last-kernel Y p1.good lv end eY on a at CatmullRom upscale_1) (λ z. omega arith)),
+            (different (leaves Z (flat r end)) (leaves Y (flat r end)) i i 128 255 refl (last_means Z p0.good lv end eZ on a at upscale_0) (last_kernel Y p1.good lv end eY on a at CatmullRom upscale_1) (λ z. omega arith)),
       )
 
 -- ---- from reading's tests to the demand

@@ -39,8 +39,8 @@ use Rattle.builder.proofs.Runs.{fetch_length, fetch_at, put_grows, put_before, p
 use Rattle.builder.proofs.Lines.{reads_all}
 use Rattle.builder.proofs.Refined.{cut, every, every_at}
 use Rattle.builder.proofs.Related.{Any, any_bytes, any_kernel, any_ups, any_row}
-use Rattle.builder.proofs.Stages.{Keeps, after, turns, folds, Notion, store, OneNeed, PairNeed, UnderNeed, stored_kept, fused_kept, close_kept, source_kept, pair_kept, under_kept, means_kept, across-kept, below-kept, kernel-kept}
-use Rattle.builder.proofs.Placed.{refine-placed}
+use Rattle.builder.proofs.Stages.{Keeps, after, turns, folds, Notion, store, OneNeed, PairNeed, UnderNeed, stored_kept, fused_kept, close_kept, source_kept, pair_kept, under_kept, means_kept, across_kept, below_kept, kernel_kept}
+use Rattle.builder.proofs.Placed.{refine_placed}
 use Rattle.builder.proofs.Swaps.{steps_keep}
 use Rattle.planes.specs.Build.{copied, halve_level, refined}
 use Rattle.planes.proofs.Prepared.{fused_fits}
@@ -181,7 +181,7 @@ refined_past {i} {v} q {len = len} {spill = spill} {scratch = scratch} r some fu
     (λ e.
     let ready = refine_ready q pel _ _ refl refl refl e len spill scratch r.layout some r.end r.spills r.room in
     let planes = ready.1 in
-    refine-placed any_bytes {N = byte i v} (offset_at q 1) 16 (record { sees = λ at n fits. tt; takes = λ at n fits. inr (omega arith) }) (omega arith) (upscale q.opts.scale_up) (any_ups (upscale q.opts.scale_up)) pel ready.0
+    refine_placed any_bytes {N = byte i v} (offset_at q 1) 16 (record { sees = λ at n fits. tt; takes = λ at n fits. inr (omega arith) }) (omega arith) (upscale q.opts.scale_up) (any_ups (upscale q.opts.scale_up)) pel ready.0
     (record {
       wide = planes.wide;
       fits = planes.fits;
@@ -287,19 +287,19 @@ module _ {x : ℕ} (i : Interp) (fits : i.width + 15 ≤ i.pitch) (k : ℕ) (in'
   off_row m n y apart le lt = off_plane m (plane_at i m + y * i.pitch) n apart (omega arith) (omega (arith, row_in y i.height i.pitch lt))
 
   module _ (v : ℕ) where
-    one-off : (m rows s : ℕ) → (m < k) ⊎ (k < m) → OneNeed (byte x v) i rows (plane_at i m) s
+    one_off : (m rows s : ℕ) → (m < k) ⊎ (k < m) → OneNeed (byte x v) i rows (plane_at i m) s
     unfolding byte
-    one-off m rows s apart = record { target = λ y lt. off_row m i.width y apart (omega arith) lt; source = λ y lt. tt }
+    one_off m rows s apart = record { target = λ y lt. off_row m i.width y apart (omega arith) lt; source = λ y lt. tt }
 
-    pair-off : (m w h l r : ℕ) → (m < k) ⊎ (k < m) → w ≤ i.width → h ≤ i.height → PairNeed (byte x v) (record { pitch = i.pitch; width = w; height = h }) (plane_at i m) l r
+    pair_off : (m w h l r : ℕ) → (m < k) ⊎ (k < m) → w ≤ i.width → h ≤ i.height → PairNeed (byte x v) (record { pitch = i.pitch; width = w; height = h }) (plane_at i m) l r
     unfolding byte
-    pair-off m w h l r apart narrow low = record { target = λ y lt. off_row m (chunked w) y apart (omega arith) (omega arith); left = λ y lt. tt; right = λ y lt. tt }
+    pair_off m w h l r apart narrow low = record { target = λ y lt. off_row m (chunked w) y apart (omega arith) (omega arith); left = λ y lt. tt; right = λ y lt. tt }
 
-    under-off : (m r s : ℕ) → (m < k) ⊎ (k < m) → 0 < i.height → UnderNeed (byte x v) i (plane_at i m) r s
+    under_off : (m r s : ℕ) → (m < k) ⊎ (k < m) → 0 < i.height → UnderNeed (byte x v) i (plane_at i m) r s
     unfolding byte
-    under-off m r s apart hh =
+    under_off m r s apart hh =
         record {
-          pair = pair-off m i.width i.height 0 r apart (omega arith) (omega arith);
+          pair = pair_off m i.width i.height 0 r apart (omega arith) (omega arith);
           from = tt;
           to = off_plane m (plane_at i m) i.width apart (omega arith) (omega (arith, row_in 0 i.height i.pitch hh));
         }
@@ -312,13 +312,13 @@ module _ {x : ℕ} (i : Interp) (fits : i.width + 15 ≤ i.pitch) (k : ℕ) (in'
       (λ j lt.
       let q = get_or qs j (pair_of 0 0 0 0 0) in
       let apart : (q.target < k) ⊎ (k < q.target) = ⊎_elim (λ (a : ltb q.target k ≡ true). inl (ltb-true q.target k a)) (λ (a : ltb k q.target ≡ true). inr (ltb-true k q.target a)) (or_cases (ltb q.target k) (ltb k q.target) (every_at _ qs e j lt)) in
-      pair_kept any_bytes (byte x v) (cut i q) _ _ _ (pair-off v q.target (i.width - q.across) (i.height - q.below) _ _ apart (omega arith) (omega arith)))
+      pair_kept any_bytes (byte x v) (cut i q) _ _ _ (pair_off v q.target (i.width - q.across) (i.height - q.below) _ _ apart (omega arith) (omega arith)))
 
   -- none of the three planes at half places is k
   pub half_keeps : {v : ℕ} → 0 < i.height → (u : Upscale) (a b d : ℕ) → (a < k) ⊎ (k < a) → (b < k) ⊎ (k < b) → (d < k) ⊎ (k < d) → KeepsByte x v (half_planes u i a b d)
   unfolding half_planes byte
-  half_keeps {v} hh Means a b d pa pb pd = means_kept any_bytes (byte x v) i a b d (pair-off v a i.width i.height 0 1 pa (omega arith) (omega arith)) (under-off v b i.pitch 0 pb hh) (under-off v d (i.pitch + 1) 1 pd hh)
-  half_keeps {v} hh (Kernel u) a b d pa pb pd = kernel-kept any_bytes (byte x v) u (any_kernel u) i a b d (one-off v a _ _ pa) (one-off v b _ _ pb) (one-off v d _ _ pd)
+  half_keeps {v} hh Means a b d pa pb pd = means_kept any_bytes (byte x v) i a b d (pair_off v a i.width i.height 0 1 pa (omega arith) (omega arith)) (under_off v b i.pitch 0 pb hh) (under_off v d (i.pitch + 1) 1 pd hh)
+  half_keeps {v} hh (Kernel u) a b d pa pb pd = kernel_kept any_bytes (byte x v) u (any_kernel u) i a b d (one_off v a _ _ pa) (one_off v b _ _ pb) (one_off v d _ _ pd)
 
 -- ---- the last byte of row 0 of the horizontal plane a, which is followed by the other two
 module _ (i : Interp) (fits : i.width + 15 ≤ i.pitch) (hh : 0 < i.height) (hw : 0 < i.width) (a x : ℕ) (e : x ≡ plane_at i a + (i.width - 1)) (c : List ℕ) (long : x < length c) where
@@ -357,11 +357,11 @@ module _ (i : Interp) (fits : i.width + 15 ≤ i.pitch) (hh : 0 < i.height) (hw 
   unfolding half_planes mean_planes byte
   half_means {s} {t} b d ab ad in' es et =
       let v = mean_of s t in
-      let under : (m r j : ℕ) → a < m → KeepsByte x v (λ l. copy_run j (plane_at i m) i.width (pair_plane i (plane_at i m) 0 r l)) = λ m r j later. under_kept any_bytes (byte x v) i _ _ _ (under-off i fits a in' v m r j (inr later) hh) in
+      let under : (m r j : ℕ) → a < m → KeepsByte x v (λ l. copy_run j (plane_at i m) i.width (pair_plane i (plane_at i m) 0 r l)) = λ m r j later. under_kept any_bytes (byte x v) i _ _ _ (under_off i fits a in' v m r j (inr later) hh) in
       has_after (after (under b i.pitch 0 ab) (under d (i.pitch + 1) 1 ad)) (means_last es et)
 
   pub half_kernel : {s : ℕ} (u : HalfPel) (b d : ℕ) → a < b → a < d → In i a x → get_or c (i.width - 1) 0 ≡ s → Has x s (half_planes (Kernel u) i a b d c)
   unfolding half_planes kernel_planes byte
   half_kernel {s} u b d ab ad in' es =
-      let one : (m rows from : ℕ) → a < m → OneNeed (byte x s) i rows (plane_at i m) from = λ m rows from later. one-off i fits a in' s m rows from (inr later) in
-      has_after (after (below-kept any_bytes (byte x s) u (any_kernel u) i _ _ (one b _ _ ab)) (across-kept any_bytes (byte x s) u (any_kernel u) i _ _ (one d _ _ ad))) (kernel_last u es)
+      let one : (m rows from : ℕ) → a < m → OneNeed (byte x s) i rows (plane_at i m) from = λ m rows from later. one_off i fits a in' s m rows from (inr later) in
+      has_after (after (below_kept any_bytes (byte x s) u (any_kernel u) i _ _ (one b _ _ ab)) (across_kept any_bytes (byte x s) u (any_kernel u) i _ _ (one d _ _ ad))) (kernel_last u es)

@@ -243,28 +243,28 @@ module _ (x : SuperOpts) (good : accepted x ≡ true) (lv : 1 ≤ level_count x)
         (built_is (Has t1 0) q S W len canvas lv (has_after refined_flat (subst (λ (z : Chosen). Has t1 0 (halved q S W len z first)) (sym none) left)))
 
     -- average
-    four-first : x.full ≡ true → Four 0 P first
-    four-first e =
+    four_first : x.full ≡ true → Four 0 P first
+    four_first e =
         subst (λ (b : Bool). Four 0 P (cond b (copied q S W canvas) canvas)) (sym e)
         (copied_four canvas (canvas_long (2 * P) (omega (arith, level1_past e, level1_end, row_in 1 (height_at q 0) P (omega (arith, h_is, hh))))))
 
-    long-first : t1 + 1 < length first
-    long-first =
+    long_first : t1 + 1 < length first
+    long_first =
         let le = canvas_long (suc (t1 + 1)) (omega (arith, past_end)) in
         cases (λ d. suc (t1 + 1) ≤ length d) x.full (λ e. copied_grows q S W (omega (arith, w_is)) (suc (t1 + 1)) canvas le) (λ e. le)
 
-    level-one : is_nat x.scale_down 4 ≡ false → Has t1 255 (halve_level q S W len Average 1 first)
+    level_one : is_nat x.scale_down 4 ≡ false → Has t1 255 (halve_level q S W len Average 1 first)
     unfolding level_by fused_at
-    level-one other =
+    level_one other =
         rw other
         (cases (Has t1 255) (x.full || false)
-        (λ e. stored_first Average (offset_at q 0) P (region_at q 1) first (omega (arith, h1_some)) (omega (arith, w1_some)) (omega arith) long-first (subst (λ (b : ℕ). Four b P first) (sym (offset_first q)) (four-first (or_none x.full e))))
-        (λ e. source_first Average S W P (region_at q 1) first (omega (arith, h1_some)) (omega (arith, w1_some)) (omega arith) long-first source_four))
+        (λ e. stored_first Average (offset_at q 0) P (region_at q 1) first (omega (arith, h1_some)) (omega (arith, w1_some)) (omega arith) long_first (subst (λ (b : ℕ). Four b P first) (sym (offset_first q)) (four_first (or_none x.full e))))
+        (λ e. source_first Average S W P (region_at q 1) first (omega (arith, h1_some)) (omega (arith, w1_some)) (omega arith) long_first source_four))
 
     averaged : is_nat x.scale_down 4 ≡ false → Has t1 255 (halved q S W len (Filter Average) first)
     unfolding halved_by
     averaged other =
-        steps_first (Has t1 255) (λ i. halve_level q S W len Average (i + 1)) (level_count x - 1) first (omega arith) (level-one other)
+        steps_first (Has t1 255) (λ i. halve_level q S W len Average (i + 1)) (level_count x - 1) first (omega arith) (level_one other)
         (λ y d m some has. has_after (level_keeps q S W len Average (y + 1) (omega (arith, level2_at, offset_mono q 2 (y + 1) (omega arith)))) has)
 
     pub written : chosen x.scale_down ≡ Filter Average → is_nat x.scale_down 4 ≡ false → get_or (leaves x (flat x end)) t1 0 ≡ 255
@@ -283,8 +283,8 @@ module _ (x : SuperOpts) (good : accepted x ≡ true) (lv : 1 ≤ level_count x)
     abbrev pub last_at : ℕ
     last_at = plane_at (planes_of q) a + (width_at q 0 - 1)
 
-    last-in : In (planes_of q) a last_at
-    last-in = record { from = omega arith; to = omega (arith, w_is, hw, row_in 0 (height_at q 0) P (omega (arith, h_is, hh))) }
+    last_in : In (planes_of q) a last_at
+    last_in = record { from = omega arith; to = omega (arith, w_is, hw, row_in 0 (height_at q 0) P (omega (arith, h_is, hh))) }
 
     squares : (1 ≤ a) × (a < pel_of x * pel_of x)
     squares =
@@ -294,11 +294,11 @@ module _ (x : SuperOpts) (good : accepted x ≡ true) (lv : 1 ≤ level_count x)
         at
 
     -- within level 0's planes, past plane 0
-    last-low : height_at q 0 * P ≤ last_at
-    last-low = omega (arith, row_in 0 a (height_at q 0 * P) squares.0)
+    last_low : height_at q 0 * P ≤ last_at
+    last_low = omega (arith, row_in 0 a (height_at q 0 * P) squares.0)
 
-    last-high : last_at < t1
-    last-high = omega (arith, last-in.to, plane_after (planes_of q) a (pel_of x * pel_of x) squares.1, level1_at full)
+    last_high : last_at < t1
+    last_high = omega (arith, last_in.to, plane_after (planes_of q) a (pel_of x * pel_of x) squares.1, level1_at full)
 
     abbrev before : List ℕ
     before = halved q S W len (chosen x.scale_down) first
@@ -306,11 +306,11 @@ module _ (x : SuperOpts) (good : accepted x ≡ true) (lv : 1 ≤ level_count x)
     through : {i v : ℕ} → i < t1 → Has i v (copied q S W canvas) → Has i v before
     through {i} {v} lt has = has_after (halved_keeps (chosen x.scale_down) lt) (subst (λ (b : Bool). Has i v (cond b (copied q S W canvas) canvas)) (sym full) has)
 
-    zero-byte : (i : ℕ) → i < t1 → Has i 0 canvas
-    zero-byte i lt = zeros_at end (spill_need q) i (omega (arith, level1_end))
+    zero_byte : (i : ℕ) → i < t1 → Has i 0 canvas
+    zero_byte i lt = zeros_at end (spill_need q) i (omega (arith, level1_end))
 
     has_room : Has last_at 0 before
-    has_room = through last-high (has_after (copied_past q S W (omega (arith, w_is)) last-low) (zero-byte last_at last-high))
+    has_room = through last_high (has_after (copied_past q S W (omega (arith, w_is)) last_low) (zero_byte last_at last_high))
 
     plane0 : W < t1
     plane0 = omega (arith, level1_past full, row_in 0 (height_at q 0) P (omega (arith, h_is, hh)))
@@ -318,20 +318,20 @@ module _ (x : SuperOpts) (good : accepted x ≡ true) (lv : 1 ≤ level_count x)
     at_last : get_or before (width_at q 0 - 1) 0 ≡ 255
     at_last =
         let lt : W - 1 < t1 = omega (arith, plane0) in
-        ap (λ (z : ℕ). get_or before (z - 1) 0) w_is ∙ (through lt (copied_flat 0 (W - 1) (W - 1) canvas (omega (arith, hh)) (omega (arith, hw)) (omega arith) (zero-byte (W - 1) lt).there)).is
+        ap (λ (z : ℕ). get_or before (z - 1) 0) w_is ∙ (through lt (copied_flat 0 (W - 1) (W - 1) canvas (omega (arith, hh)) (omega (arith, hw)) (omega arith) (zero_byte (W - 1) lt).there)).is
 
     at_next : get_or before (width_at q 0) 0 ≡ 0
-    at_next = ap (λ (z : ℕ). get_or before z 0) w_is ∙ (through plane0 (has_after (copied_margin q S W (omega (arith, w_is)) (omega (arith, w_is)) (omega arith)) (zero-byte W plane0))).is
+    at_next = ap (λ (z : ℕ). get_or before z 0) w_is ∙ (through plane0 (has_after (copied_margin q S W (omega (arith, w_is)) (omega (arith, w_is)) (omega arith)) (zero_byte W plane0))).is
 
-    last-by : (v : ℕ) (u : Upscale) → upscale x.scale_up ≡ u → Has last_at v (refine (planes_of q) (pel_of x) u before) → get_or (leaves x (flat x end)) last_at 0 ≡ v
+    last_by : (v : ℕ) (u : Upscale) → upscale x.scale_up ≡ u → Has last_at v (refine (planes_of q) (pel_of x) u before) → get_or (leaves x (flat x end)) last_at 0 ≡ v
     unfolding refined
-    last-by v u e has =
-        frame_byte last_at v (omega (arith, last-high, level1_end))
+    last_by v u e has =
+        frame_byte last_at v (omega (arith, last_high, level1_end))
         (built_is (Has last_at v) q S W len canvas lv
         (cases (Has last_at v) (refines q) (λ z. subst (λ (k : Upscale). Has last_at v (refine (planes_of q) (pel_of x) k before)) (sym e) has) (λ z. absurd (clash (refines q) on z))))
 
-    pub last-means : upscale x.scale_up ≡ Means → get_or (leaves x (flat x end)) last_at 0 ≡ 128
-    last-means u = last-by 128 Means u (refine_means (planes_of q) (omega (arith, w_is)) (omega (arith, h_is, hh)) (omega (arith, w_is, hw)) (pel_of x) a last_at at last-in refl before has_room.there at_last at_next)
+    pub last_means : upscale x.scale_up ≡ Means → get_or (leaves x (flat x end)) last_at 0 ≡ 128
+    last_means u = last_by 128 Means u (refine_means (planes_of q) (omega (arith, w_is)) (omega (arith, h_is, hh)) (omega (arith, w_is, hw)) (pel_of x) a last_at at last_in refl before has_room.there at_last at_next)
 
-    pub last-kernel : (k : HalfPel) → upscale x.scale_up ≡ Kernel k → get_or (leaves x (flat x end)) last_at 0 ≡ 255
-    last-kernel k u = last-by 255 (Kernel k) u (refine_kernel (planes_of q) (omega (arith, w_is)) (omega (arith, h_is, hh)) (omega (arith, w_is, hw)) (pel_of x) a last_at at last-in refl before has_room.there k at_last)
+    pub last_kernel : (k : HalfPel) → upscale x.scale_up ≡ Kernel k → get_or (leaves x (flat x end)) last_at 0 ≡ 255
+    last_kernel k u = last_by 255 (Kernel k) u (refine_kernel (planes_of q) (omega (arith, w_is)) (omega (arith, h_is, hh)) (omega (arith, w_is, hw)) (pel_of x) a last_at at last_in refl before has_room.there k at_last)

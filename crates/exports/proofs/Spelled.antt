@@ -63,36 +63,36 @@ module _ (l : List ℕ) (F : List ℤ) (A : List ℕ) where
   left_short h = left (ap (lowest (longhand_no l)) h ∙ short_15 l) refl refl
 
   module _ (room : (ltb (length F) 10 || ltb (length A) 1) ≡ false) where
-    by-reading : longhand_read_no l F A ≡ longhand_no l
-    by-reading = ap (lowest (longhand_no l)) room ∙ same_number (longhand_no l) (low (longhand_no l))
+    by_reading : longhand_read_no l F A ≡ longhand_no l
+    by_reading = ap (lowest (longhand_no l)) room ∙ same_number (longhand_no l) (low (longhand_no l))
 
-    long-f : 10 ≤ length F
-    long-f = ltb-false (length F) 10 (or_false_left (ltb (length F) 10) (ltb (length A) 1) room)
+    long_f : 10 ≤ length F
+    long_f = ltb-false (length F) 10 (or_false_left (ltb (length F) 10) (ltb (length A) 1) room)
 
-    long-a : 1 ≤ length A
-    long-a = ltb-false (length A) 1 (or_false_right (ltb (length F) 10) (ltb (length A) 1) room)
+    long_a : 1 ≤ length A
+    long_a = ltb-false (length A) 1 (or_false_right (ltb (length F) 10) (ltb (length A) 1) room)
 
-    pub left-record : {r k : ℕ} {f : List ℤ} {a : List ℕ} (h : Longhand) → answer 0 h ≡ longhand_answer l → answer k f ≡ tells 0 (numbers_of h.opts) F → answer r a ≡ tells 0 (h.after ∷ []) A → Left r f a
-    left-record {r} {k} {f} {a} h e p q =
+    pub left_record : {r k : ℕ} {f : List ℤ} {a : List ℕ} (h : Longhand) → answer 0 h ≡ longhand_answer l → answer k f ≡ tells 0 (numbers_of h.opts) F → answer r a ≡ tells 0 (h.after ∷ []) A → Left r f a
+    left_record {r} {k} {f} {a} h e p q =
         let is : h ≡ (longhand_answer l).value = value_of e in
-        let p2 = put_done (numbers_of h.opts) F long-f p in
-        let q2 = put_done (h.after ∷ []) A long-a q in
+        let p2 = put_done (numbers_of h.opts) F long_f p in
+        let q2 = put_done (h.after ∷ []) A long_a q in
         left
-        (by-reading ∙ sym (number_of e))
+        (by_reading ∙ sym (number_of e))
         (ap (λ (n : ℕ). answer n f) (number_of q2) ∙ ap (answer 0) (value_of p2) ∙ ap (λ (x : Longhand). answer 0 (written (numbers_of x.opts) F)) is)
         (q2 ∙ ap (λ (x : Longhand). answer 0 (written (x.after ∷ []) A)) is)
 
-    pub left-unknown : {k : ℕ} {a : List ℕ} (place : ℕ) → answer 16 (no_longhand place) ≡ longhand_answer l → answer k a ≡ tells 0 (place ∷ []) A → Left 16 F a
-    left-unknown {k} {a} place e q =
+    pub left_unknown : {k : ℕ} {a : List ℕ} (place : ℕ) → answer 16 (no_longhand place) ≡ longhand_answer l → answer k a ≡ tells 0 (place ∷ []) A → Left 16 F a
+    left_unknown {k} {a} place e q =
         let is : place ≡ (longhand_answer l).value.after = ap (λ (x : Longhand). x.after) (value_of e) in
         left
-        (by-reading ∙ sym (number_of e))
+        (by_reading ∙ sym (number_of e))
         refl
-        (ap (answer 16) (value_of (put_done (place ∷ []) A long-a q)) ∙ ap (λ (n : ℕ). answer 16 (written (n ∷ []) A)) is)
+        (ap (answer 16) (value_of (put_done (place ∷ []) A long_a q)) ∙ ap (λ (n : ℕ). answer 16 (written (n ∷ []) A)) is)
 
-    pub left-refused : {r : ℕ} (f : Refusal) → answer (number f) (no_longhand 0) ≡ longhand_answer l → r ≡ number f → Left r F A
-    left-refused f e is =
+    pub left_refused : {r : ℕ} (f : Refusal) → answer (number f) (no_longhand 0) ≡ longhand_answer l → r ≡ number f → Left r F A
+    left_refused f e is =
         left
-        (by-reading ∙ sym (number_of e))
+        (by_reading ∙ sym (number_of e))
         (rw (is, number_some f))
         (rw (is, number_some f, number_not_16 f))

@@ -94,8 +94,8 @@ module _ (r : SuperOpts) (src : ℕ → List ℕ) (sp : ℕ → ℕ) {a : Lent} 
       (one.number, two.number, (done_answer all.number e left a.frame, done_answer all.number e all.spill a.spill, done_answer all.number e all.scratch a.scratch))
 
   module _ {n : ℕ} {F S X : List ℕ} (l : FrameLeaves r src sp a.frame a.spill a.scratch n F S X) where
-    pub left-by-calls : n ≡ 0 → (d : Lent) → ByCalls r src sp a d → (F ≡ d.frame) × (S ≡ d.spill) × (X ≡ d.scratch)
-    left-by-calls done d c =
+    pub left_by_calls : n ≡ 0 → (d : Lent) → ByCalls r src sp a d → (F ≡ d.frame) × (S ≡ d.spill) × (X ≡ d.scratch)
+    left_by_calls done d c =
         let none = sym (number_of l.0) ∙ done in
         let all = (any_order none c).2 in
         (same _ _ l.0 all.0 none, same _ _ l.1 all.1 none, same _ _ l.2 all.2 none)
@@ -104,8 +104,8 @@ module _ (r : SuperOpts) (src : ℕ → List ℕ) (sp : ℕ → ℕ) {a : Lent} 
         same v none p q e = value_done v none p e ∙ sym (value_done v none q e)
 
     -- "A refusal in any plane leaves all three untouched", and spill and scratch too
-    pub left-as-it-was : (n ≡ 0 → ⊥) → (F ≡ a.frame) × (S ≡ a.spill) × (X ≡ a.scratch)
-    left-as-it-was some = (kept _ l.0, kept _ l.1, kept _ l.2)
+    pub left_as_it_was : (n ≡ 0 → ⊥) → (F ≡ a.frame) × (S ≡ a.spill) × (X ≡ a.scratch)
+    left_as_it_was some = (kept _ l.0, kept _ l.1, kept _ l.2)
       where
         kept : {k : ℕ} {x none : List ℕ} (v : List ℕ) → answer n x ≡ if_done k v none → x ≡ none
         kept v p = value_refused v _ p (λ e. some (number_of p ∙ e))
@@ -115,7 +115,7 @@ pub build_frame_contract : (κs : Lfts 6) → Contract (build_frame_reads.Post �
 build_frame_contract κs x t e = both_ways
 
 pub frame_by_calls : (κs : Lfts 6) → Promises (build_frame_reads.Post κs) (λ x t e. tested t ≡ 0 → (d : Lent) → ByCalls x.1.1.1.0 (three x.1.1.1.1.0.now x.1.1.1.1.1.1.0.now x.1.1.1.1.1.1.1.1.0.now) (three x.1.1.1.1.1.0 x.1.1.1.1.1.1.1.0 x.1.1.1.1.1.1.1.1.1.0) (record { frame = x.0.now; spill = x.1.0.now; scratch = x.1.1.0.now }) d → (e.0.now ≡ d.frame) × (e.1.0.now ≡ d.spill) × (e.1.1.0.now ≡ d.scratch))
-frame_by_calls κs x t e p = left-by-calls _ _ _ ((build_frame_contract κs x t e).0 p)
+frame_by_calls κs x t e p = left_by_calls _ _ _ ((build_frame_contract κs x t e).0 p)
 
 pub refused_kept : (κs : Lfts 6) → Promises (build_frame_reads.Post κs) (λ x t e. (tested t ≡ 0 → ⊥) → (e.0.now ≡ x.0.now) × (e.1.0.now ≡ x.1.0.now) × (e.1.1.0.now ≡ x.1.1.0.now))
-refused_kept κs x t e p = left-as-it-was _ (three x.1.1.1.1.0.now x.1.1.1.1.1.1.0.now x.1.1.1.1.1.1.1.1.0.now) (three x.1.1.1.1.1.0 x.1.1.1.1.1.1.1.0 x.1.1.1.1.1.1.1.1.1.0) ((build_frame_contract κs x t e).0 p)
+refused_kept κs x t e p = left_as_it_was _ (three x.1.1.1.1.0.now x.1.1.1.1.1.1.0.now x.1.1.1.1.1.1.1.1.0.now) (three x.1.1.1.1.1.0 x.1.1.1.1.1.1.1.0 x.1.1.1.1.1.1.1.1.1.0) ((build_frame_contract κs x t e).0 p)

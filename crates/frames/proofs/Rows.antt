@@ -59,8 +59,8 @@ module _ (r : SuperOpts) (k l j y : ℕ) where
     pub moved : answer 0 (record { offset = s + at.offset; length = at.length }) ≡ if_done n (run_in_of r k l j y) no_run
     moved = ap (answer 0) (rw (starts, run) refl) ∙ given n (run_in_of r k l j y) no_run (sym (number_of e))
 
-    pub moved-le : planes_no r ≡ 0 → k ≤ 2 → n ≡ refuse (no_row (plane_of r k) l j y) 19 → s + at.offset ≤ 4 * most_offset
-    moved-le p h is = omega (arith, starts, ap (λ (x : Run). x.offset) run, ends_alone p (refuse_not (no_row (plane_of r k) l j y) 18 (sym is ∙ sym (number_of e))), length_le r p k, start_le r p k)
+    pub moved_le : planes_no r ≡ 0 → k ≤ 2 → n ≡ refuse (no_row (plane_of r k) l j y) 19 → s + at.offset ≤ 4 * most_offset
+    moved_le p h is = omega (arith, starts, ap (λ (x : Run). x.offset) run, ends_alone p (refuse_not (no_row (plane_of r k) l j y) 18 (sym is ∙ sym (number_of e))), length_le r p k, start_le r p k)
 
   pub placed_in : (len : ℕ) → part_no r len k ≡ 0 → {a : Answer Run} → a ≡ if_done (refuse (no_row (plane_of r k) l j y) 19) (run_in_of r k l j y) no_run → a ≡ place_in_answer r len k l j y
   unfolding row_in_no

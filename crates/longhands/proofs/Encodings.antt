@@ -63,10 +63,10 @@ survives r rest good down up =
     let l = longhand_of r ++ rest in
     let fits : length b < 65536 = omega (arith, body_long r) in
     let known : 1 < 65536 = omega arith in
-    let is_IsBody = body_at 1 b rest known fits in
+    let is_body_lem = body_at 1 b rest known fits in
     let long : length_of l ≡ 17 = length_at 1 b rest known fits ∙ ap (λ (n : ℕ). 2 + n) (body_long r) in
-    let none : longhand_no l ≡ 0 = by_body l (frame_fine 1 b rest known fits) (kind_at 1 b rest known fits) long ∙ ap (λ (x : List ℕ). refuse (not (kind1_good x)) 18) is_IsBody ∙ ap (λ (t : Bool). refuse (not t) 18) (body_good r good down up) in
-    rw (none, kind_at 1 b rest known fits, is_IsBody, long, record_back r good down up)
+    let none : longhand_no l ≡ 0 = by_body l (frame_fine 1 b rest known fits) (kind_at 1 b rest known fits) long ∙ ap (λ (x : List ℕ). refuse (not (kind1_good x)) 18) is_body_lem ∙ ap (λ (t : Bool). refuse (not t) 18) (body_good r good down up) in
+    rw (none, kind_at 1 b rest known fits, is_body_lem, long, record_back r good down up)
 
 -- ---- "one record has one encoding"
 body_count : (l : List ℕ) → Whole l → length (body_of l) ≡ length_of l - 2

@@ -159,53 +159,53 @@ module _ (q : Layout) {m sp len spill scratch : ℕ} (r : Ready q m sp len spill
         go true e = fused_generic l some there e c clean ∙ ap (λ (g : ReduceFilter). from_stored g (offset_at q (l - 1)) q.pitch (region_at q l) c) (is (fused_four q len l e)) ∙ rw (stored_yes l)
         go false e = refl
 
-    level-zeros : (f : ReduceFilter) (l : ℕ) → 1 ≤ l → l < levels_of q → (c : List ℕ) → Zeros c → Zeros (level_by false q src sp len f l c)
+    level_zeros : (f : ReduceFilter) (l : ℕ) → 1 ≤ l → l < levels_of q → (c : List ℕ) → Zeros c → Zeros (level_by false q src sp len f l c)
     unfolding level_by
-    level-zeros f l some there c clean = rw (stored_yes l) (stored_zeros f l some there c clean)
+    level_zeros f l some there c clean = rw (stored_yes l) (stored_zeros f l some there c clean)
 
     -- ---- all of them, and the build
     halved_same : (k : Chosen) → chosen q.opts.scale_down ≡ k → (c : List ℕ) → Zeros c → halved_by true q src sp len k c ≡ halved_by false q src sp len k c
     unfolding halved_by
     halved_same (Filter f) e c clean =
         steps_alike Zeros (λ i. level_by true q src sp len f (i + 1)) (λ i. level_by false q src sp len f (i + 1)) (levels_of q - 1)
-        (λ i d lt h. level-zeros f (i + 1) (omega arith) (omega arith) d h)
+        (λ i d lt h. level_zeros f (i + 1) (omega arith) (omega arith) d h)
         (λ i d lt h. level_same f (cubic_chosen q.opts.scale_down f e) (i + 1) (omega arith) (omega arith) d h)
         c clean
     halved_same NoFilter e c clean = refl
 
-    first-zeros : 1 ≤ levels_of q → (c : List ℕ) → Zeros c → Zeros (cond q.opts.full (copied q src sp c) c)
-    first-zeros some c clean =
+    first_zeros : 1 ≤ levels_of q → (c : List ℕ) → Zeros c → Zeros (cond q.opts.full (copied q src sp c) c)
+    first_zeros some c clean =
         subst Zeros (sym (cond_yes q.opts.full (copied q src sp c) c full))
         (stays (copied q src sp) c clean (length_kept (λ N A. copied_placed any_bytes q src src r (allows_less (omega arith) A) any_row some full) c clean.same)
         (λ l y j sl tl fl lt from to. has_after (copied_past q src sp (width_first q (allowed q r.layout) full) (omega (arith, first_before l sl)))))
 
-    pub built-same : (c : List ℕ) → Zeros c → built_by true q src sp len c ≡ built_by false q src sp len c
+    pub built_same : (c : List ℕ) → Zeros c → built_by true q src sp len c ≡ built_by false q src sp len c
     unfolding built_by
-    built-same c clean = go (eqb (levels_of q) 0) refl
+    built_same c clean = go (eqb (levels_of q) 0) refl
       where
         go : (t : Bool) → eqb (levels_of q) 0 ≡ t → cond t c (refined q (halved_by true q src sp len (chosen q.opts.scale_down) (cond q.opts.full (copied q src sp c) c))) ≡ cond t c (refined q (halved_by false q src sp len (chosen q.opts.scale_down) (cond q.opts.full (copied q src sp c) c)))
         go true e = refl
         go false e =
             let some : 1 ≤ levels_of q = omega (arith, eqb-false (levels_of q) 0 e) in
-            ap (refined q) (halved_same (chosen q.opts.scale_down) refl (cond q.opts.full (copied q src sp c) c) (first-zeros some c clean))
+            ap (refined q) (halved_same (chosen q.opts.scale_down) refl (cond q.opts.full (copied q src sp c) c) (first_zeros some c clean))
 
     -- and the margins are zeros still
-    halved-zeros : (k : Chosen) (c : List ℕ) → Zeros c → Zeros (halved_by false q src sp len k c)
+    halved_zeros : (k : Chosen) (c : List ℕ) → Zeros c → Zeros (halved_by false q src sp len k c)
     unfolding halved_by
-    halved-zeros (Filter f) c clean = steps_keep Zeros (λ i. level_by false q src sp len f (i + 1)) (levels_of q - 1) c (λ i d lt h. level-zeros f (i + 1) (omega arith) (omega arith) d h) clean
-    halved-zeros NoFilter c clean = clean
+    halved_zeros (Filter f) c clean = steps_keep Zeros (λ i. level_by false q src sp len f (i + 1)) (levels_of q - 1) c (λ i d lt h. level_zeros f (i + 1) (omega arith) (omega arith) d h) clean
+    halved_zeros NoFilter c clean = clean
 
-    refined-zeros : 1 ≤ levels_of q → (c : List ℕ) → Zeros c → Zeros (refined q c)
-    refined-zeros some c clean =
+    refined_zeros : 1 ≤ levels_of q → (c : List ℕ) → Zeros c → Zeros (refined q c)
+    refined_zeros some c clean =
         stays (refined q) c clean (length_kept (λ N A. refined_kept q (refining_placed any_bytes q r A (λ z. any_ups (upscale q.opts.scale_up)) some)) c clean.same)
         (λ l y j sl tl fl lt from to. has_after (refined_past q r some full (omega (arith, fused_wide q len l fl, offset_mono q 1 l sl))))
 
-    pub built-zeros : (c : List ℕ) → Zeros c → Zeros (built_by false q src sp len c)
+    pub built_zeros : (c : List ℕ) → Zeros c → Zeros (built_by false q src sp len c)
     unfolding built_by
-    built-zeros c clean = go (eqb (levels_of q) 0) refl
+    built_zeros c clean = go (eqb (levels_of q) 0) refl
       where
         go : (t : Bool) → eqb (levels_of q) 0 ≡ t → Zeros (cond t c (refined q (halved_by false q src sp len (chosen q.opts.scale_down) (cond q.opts.full (copied q src sp c) c))))
         go true e = clean
         go false e =
             let some : 1 ≤ levels_of q = omega (arith, eqb-false (levels_of q) 0 e) in
-            refined-zeros some _ (halved-zeros (chosen q.opts.scale_down) _ (first-zeros some c clean))
+            refined_zeros some _ (halved_zeros (chosen q.opts.scale_down) _ (first_zeros some c clean))

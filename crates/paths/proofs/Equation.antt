@@ -18,7 +18,7 @@ use Rattle.builder.specs.Halving.{whole_of, vertical_line, vertical_rows, halve_
 use Rattle.builder.specs.Room.{Source, Within}
 use Rattle.builder.proofs.Runs.{fetch_before, put_length}
 use Rattle.builder.proofs.Lines.{line_length, line_reads}
-use Rattle.builder.proofs.Related.{same_bytes, rel_same, same_row, rel-line}
+use Rattle.builder.proofs.Related.{same_bytes, rel_same, same_row, rel_line}
 use Rattle.builder.proofs.Halves.{fused_run, row_within}
 use Rattle.builder.proofs.Swaps.{fetch_after, stores_swap, steps_keep, steps_alike, steps_two}
 
@@ -73,7 +73,7 @@ module _ {len scratch base p : ℕ} {t : Region} (w : Within len scratch base p 
   line_kept : (y a : ℕ) (d ys : List ℕ) → y < t.height → t.offset ≤ a → line y (put d a ys) ≡ line y d
   line_kept y a d ys lt past =
       same_row _ _ (line_long y (put d a ys) ∙ sym (line_long y d))
-      (rel-line same_bytes (put d a ys) d (λ s k fits. rel_same (fetch_before d ys a s k (omega arith))) Cubic n n t.height base p y (line_reads (λ s k fits. fits) Cubic (omega arith) (inl refl) from lt))
+      (rel_line same_bytes (put d a ys) d (λ s k fits. rel_same (fetch_before d ys a s k (omega arith))) Cubic n n t.height base p y (line_reads (λ s k fits. fits) Cubic (omega arith) (inl refl) from lt))
     where
       from : Source t.offset base p n t.height
       from = record { rows = omega (arith, w.source, w.fits) }

@@ -23,7 +23,7 @@ use Rattle.builder.specs.Room.{Within}
 use Rattle.builder.proofs.Runs.{put_at, put_before}
 use Rattle.builder.proofs.Halves.{row_within}
 use Rattle.builder.proofs.Related.{any_bytes}
-use Rattle.builder.proofs.Placed.{stored-placed}
+use Rattle.builder.proofs.Placed.{stored_placed}
 use Rattle.builder.proofs.halving.reduce_cubic.Reads as reduce_cubic_reads
 use Rattle.builder.proofs.halving.reduce_within.Reads as reduce_within_reads
 use Rattle.planes.proofs.Prepared.{cubic_whole, within_here}
@@ -70,7 +70,7 @@ module _ {len scratch base p : ℕ} {t : Region} (w : Within len scratch base p 
 
   -- ---- generic halving
   pub stored_long : (f : ReduceFilter) (c : List ℕ) → length c ≡ len → length (from_stored f base p t c) ≡ len
-  stored_long f c e = length_kept (λ N A. stored-placed any_bytes A w f) c e
+  stored_long f c e = length_kept (λ N A. stored_placed any_bytes A w f) c e
 
   -- a byte that lies in no row of the level
   others_kept : {i v : ℕ} → (i < t.offset) ⊎ (t.offset + t.height * p ≤ i) → KeepsByte i v (from_stored Cubic base p t) × KeepsByte i v (clear_from n t p)

@@ -34,7 +34,7 @@ use Rattle.planes.proofs.build.build_plane_by.Reads as build_plane_by_reads
 use Rattle.demands.proofs.Demand.{done_leaves}
 use Rattle.paths.specs.Paths.{place_at, OneFrame, FusedMarginsZero, SameInput, Source, in_turn, AllAccepted}
 use Rattle.builder.proofs.Swaps.{steps_alike}
-use Rattle.paths.proofs.Builds.{Clean, stored_yes, built-same, built-zeros}
+use Rattle.paths.proofs.Builds.{Clean, stored_yes, built_same, built_zeros}
 
 -- ---- a full record
 module _ (q : Layout) (sp scratch : ℕ) (full : q.opts.full ≡ true) (src F : List ℕ) (e : build_no q (length src) sp (length F) (spill_need q) scratch ≡ 0) (margins : FusedMarginsZero q (length F) F) where
@@ -56,16 +56,16 @@ module _ (q : Layout) (sp scratch : ℕ) (full : q.opts.full ≡ true) (src F : 
 
   pub paths_alike : OneFrame q src sp F
   unfolding frame_by
-  paths_alike = ap (take (length F)) (built-same q accepted full src canvas clean)
+  paths_alike = ap (take (length F)) (built_same q accepted full src canvas clean)
 
   -- what is left is such a frame again
   left_long : length (frame_by false q src sp F) ≡ length F
   unfolding frame_by
-  left_long = length-take-le (length F) _ (omega (arith, (built-zeros q accepted full src canvas clean).same))
+  left_long = length-take-le (length F) _ (omega (arith, (built_zeros q accepted full src canvas clean).same))
 
   margins_left : FusedMarginsZero q (length F) (frame_by false q src sp F)
   unfolding frame_by
-  margins_left l some there fl y j lt from to = get_or-take (length F) _ (place_at q l y j) 0 (margin_there l y j some there lt to) ∙ (built-zeros q accepted full src canvas clean).margins l some there fl y j lt from to
+  margins_left l some there fl y j lt from to = get_or-take (length F) _ (place_at q l y j) 0 (margin_there l y j some there lt to) ∙ (built_zeros q accepted full src canvas clean).margins l some there fl y j lt from to
 
 -- pictures in turn, with the path on for any of them and off for others, leave what they leave with it off for all
 turns_off : (path : ℕ → Bool) (q : Layout) → q.opts.full ≡ true → (sources : List Source) (F : List ℕ) → AllAccepted q (length F) sources → FusedMarginsZero q (length F) F → in_turn path q sources F ≡ in_turn (λ k. false) q sources F
@@ -88,10 +88,10 @@ turns_alike path path' q full sources F all margins = turns_off path q full sour
 
 -- a frame of zeros is such a frame
 pub zero_margins : (q : Layout) (len : ℕ) → FusedMarginsZero q len (replicate len 0)
-zero_margins q len l some there fl y j lt from to = zero-at (place_at q l y j)
+zero_margins q len l some there fl y j lt from to = zero_at (place_at q l y j)
   where
-    zero-at : (i : ℕ) → get_or (replicate {A = ℕ} len 0) i 0 ≡ 0
-    zero-at i = ⊎_elim (λ (lt : i < len). get_or-replicate len i 0 0 lt) (λ (le : len ≤ i). get_or-eq_default (replicate len 0) 0 (omega (arith, length-replicate {A = ℕ} len 0))) (below_or i len)
+    zero_at : (i : ℕ) → get_or (replicate {A = ℕ} len 0) i 0 ≡ 0
+    zero_at i = ⊎_elim (λ (lt : i < len). get_or-replicate len i 0 0 lt) (λ (le : len ≤ i). get_or-eq_default (replicate len 0) 0 (omega (arith, length-replicate {A = ℕ} len 0))) (below_or i len)
 
 pub paths_zeros : (q : Layout) (sp scratch len : ℕ) (src : List ℕ) → q.opts.full ≡ true → build_no q (length src) sp len (spill_need q) scratch ≡ 0 → OneFrame q src sp (replicate len 0)
 paths_zeros q sp scratch len src full e =

@@ -16,7 +16,7 @@ use Rattle.frames.specs.declared.parts.Part.{Part}
 use Rattle.frames.specs.declared.parts.Parts.{Parts}
 use Rattle.frames.specs.Parts.{plane_of, joined_end, part_no, run_in_of}
 use Rattle.frames.proofs.Laid.{laid_plane}
-use Rattle.frames.proofs.Rows.{part_short, part_long, moved, moved-le, placed_in, refused_in}
+use Rattle.frames.proofs.Rows.{part_short, part_long, moved, moved_le, placed_in, refused_in}
 use Rattle.frames.proofs.parts.place_in.Goals as goal
 
 pub returns-then-len-parts : goal.returns-then-len-parts
@@ -40,7 +40,7 @@ overflow_add-result c =
     let known : placed c.row_in.result ≡ if_done (refuse (no_row (plane_of c.args.opts c.args.part) c.args.level c.args.plane c.args.y) 19) (run_of (plane_of c.args.opts c.args.part) c.args.level c.args.plane c.args.y) no_run = let a = c.args in
     c.row_in.ensures ∙ ap (λ (q : Layout). if_done (refuse (no_row q a.level a.plane a.y) 19) (run_of q a.level a.plane a.y) no_run) c.plane_of.ensures in
     let a = c.args in
-    omega (arith, moved-le a.opts a.part a.level a.plane a.y (sym (ap placed c.in-At.is) ∙ known) (ap (λ (p : Part). p.start) c.part_of-own.ensures) c.requires (omega (arith, c.if-part-gt2.false)) refl)
+    omega (arith, moved_le a.opts a.part a.level a.plane a.y (sym (ap placed c.in-At.is) ∙ known) (ap (λ (p : Part). p.start) c.part_of-own.ensures) c.requires (omega (arith, c.if-part-gt2.false)) refl)
 
 pub returns-in-At : goal.returns-in-At
 returns-in-At c =
