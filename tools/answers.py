@@ -264,7 +264,7 @@ def run(crate):
             if os.path.exists(path):
                 with open(path, encoding="utf-8") as f:
                     head = f.read() + "\n"
-            texts = [answers[g] for g in re.findall(r"`([^`]+)`", goals) if g in answers]
+            texts = [answers[g] for g in re.findall(r"`([^`]+)`", goals) if g in answers and f"\npub {g} :" not in head]
             if texts:
                 with open(path, "w", encoding="utf-8") as f:
                     f.write(head + "\n".join(texts))
