@@ -12,9 +12,7 @@ use Rattle.answers.proofs.sizes.parts_numbers.Reads as parts_numbers_reads
 use Rattle.answers.proofs.room.number.Reads as number_reads
 use Rattle.answers.proofs.room.lowest.Reads as lowest_reads
 use Rattle.answers.proofs.room.no_room.Reads as no_room_reads
-use Rattle.answers.proofs.room.put_numbers.Reads as put_numbers_reads
-use Rattle.answers.proofs.room.put_word.Reads as put_word_reads
-use Rattle.answers.proofs.room.put_sizes.Reads as put_sizes_reads
+use Rattle.answers.proofs.room.put.Reads as put_reads
 use Rattle.answers.proofs.room.put_layout.Reads as put_layout_reads
 use Rattle.answers.proofs.sizes.plane_numbers.Reads as plane_numbers_reads
 
@@ -48,14 +46,8 @@ lowest_unique κs x r s e f p q = determined itself p q
 pub no_room_unique : (κs : Lfts 0) → OneOutcome (no_room_reads.Post κs) (λ r e. r)
 no_room_unique κs x r s e f p q = determined itself p q
 
-pub put_numbers_unique : (κs : Lfts 2) → OneOutcome (put_numbers_reads.Post κs) (λ r e. answer r e.0.now)
-put_numbers_unique κs x r s e f p q = determined itself p q
-
-pub put_word_unique : (κs : Lfts 1) → OneOutcome (put_word_reads.Post κs) (λ r e. answer r e.0.now)
-put_word_unique κs x r s e f p q = determined itself p q
-
-pub put_sizes_unique : (κs : Lfts 2) → OneOutcome (put_sizes_reads.Post κs) (λ r e. answer r e.0.now)
-put_sizes_unique κs x r s e f p q = determined itself p q
+pub put_unique : (g : _) (b : _) (t : _) (d : _) (d' : _) (κs : Lfts 3) → OneOutcome (put_reads.Post g b t d d' κs) (λ r e. answer r e.0.now)
+put_unique g b t d d' κs x r s e f p q = determined itself p q
 
 pub put_layout_unique : (κs : Lfts 1) → OneOutcome (put_layout_reads.Post κs) (λ r e. answer r e.0.now)
 put_layout_unique κs x r s e f p q = determined itself p q

@@ -1,14 +1,10 @@
 -- The numbers that a call takes or tells, and what they stand for: settings, a record, what a word tells, where a level's plane lies, what a build needs, and where the parts of a frame lie.
-use Rattle.std.specs.Prelude.{Bool, true, false, cond, not, ◌&&◌, ◌||◌, List, [], ◌∷◌, ◌++◌, ℕ, ◌/◌, ◌%◌, ◌^◌, eqb, ℤ, pos, length, get_or}
-use Rattle.settings.specs.declared.super_opts.OptInt.{OptInt}
-use Rattle.settings.specs.declared.super_opts.OptInt.TheVariants.{Given as GivenInt, Absent as NoInt}
-use Rattle.settings.specs.declared.super_opts.OptBool.{OptBool}
-use Rattle.settings.specs.declared.super_opts.OptBool.TheVariants.{Given as GivenBool, Absent as NoBool}
+use Rattle.std.specs.Prelude.{Bool, cond, not, ◌&&◌, ◌||◌, List, [], ◌∷◌, ◌++◌, ℕ, ◌/◌, ◌%◌, ◌^◌, eqb, ℤ, pos, length, get_or, is_some, unwrap_or}
+use Rattle.std.specs.Bool.{then_some}
 use Rattle.settings.specs.declared.super_opts.Settings.{Settings}
 use Rattle.settings.specs.declared.super_opts.SuperOpts.{SuperOpts}
 use Rattle.settings.specs.declared.word.Description.{Description}
 use Rattle.settings.specs.Numbers.{is_nat, bit}
-use Rattle.settings.specs.Check.{int_or}
 use Rattle.settings.specs.Answers.{no_record}
 use Rattle.layouts.specs.declared.layout.Needs.{Needs}
 use Rattle.lookups.specs.declared.rows.Plane.{Plane}
@@ -22,25 +18,17 @@ flag b = pos (bit b)
 abbrev pub is_present : ℕ → ℕ → Bool
 is_present given k = eqb (given / 2 ^ k % 2) 1
 
-abbrev pub int_if : Bool → ℤ → OptInt
-int_if true z = GivenInt z
-int_if false z = NoInt
-
 -- a flag is yes unless it is 0, as in C
-abbrev pub bool_if : Bool → ℤ → OptBool
-bool_if true z = GivenBool (not (is_nat z 0))
-bool_if false z = NoBool
-
 abbrev pub settings_of : ℕ → ℤ → ℤ → ℤ → ℤ → ℤ → ℤ → ℤ → Settings
 settings_of given pel gpu down up full rc lean =
     record {
-      pel = int_if (is_present given 0) pel;
-      gpu = int_if (is_present given 1) gpu;
-      down = int_if (is_present given 2) down;
-      up = int_if (is_present given 3) up;
-      full = bool_if (is_present given 4) full;
-      rc = bool_if (is_present given 5) rc;
-      lean = bool_if (is_present given 6) lean;
+      pel = then_some (is_present given 0) pel;
+      gpu = then_some (is_present given 1) gpu;
+      down = then_some (is_present given 2) down;
+      up = then_some (is_present given 3) up;
+      full = then_some (is_present given 4) (not (is_nat full 0));
+      rc = then_some (is_present given 5) (not (is_nat rc 0));
+      lean = then_some (is_present given 6) (not (is_nat lean 0));
     }
 
 -- ---- a record: ten numbers, in the order of its fields; they are taken as they are told (`numbers_back` of proofs/Records.antt)
@@ -88,10 +76,6 @@ unfoldable pub record_of : List ℤ → SuperOpts
 record_of l = cond (are_fields l) (fields_of l) no_record
 
 -- ---- what a word tells: twelve numbers, of down and up whether they matter, then which
-abbrev pub is_told : OptInt → Bool
-is_told (GivenInt z) = true
-is_told NoInt = false
-
 abbrev pub told_numbers : Description → List ℤ
 told_numbers d =
     d.width
@@ -102,10 +86,10 @@ told_numbers d =
     ∷ flag d.full
     ∷ flag d.rc
     ∷ flag d.lean
-    ∷ flag (is_told d.down)
-    ∷ int_or d.down (pos 0)
-    ∷ flag (is_told d.up)
-    ∷ int_or d.up (pos 0)
+    ∷ flag (is_some d.down)
+    ∷ unwrap_or d.down (pos 0)
+    ∷ flag (is_some d.up)
+    ∷ unwrap_or d.up (pos 0)
     ∷ []
 
 -- ---- where a level's plane lies

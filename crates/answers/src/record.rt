@@ -1,6 +1,5 @@
 // Numbers to a record, and a record to its numbers, in the order of `SuperOpts`.
 ghost use Rattle.std.specs.Prelude.{◌≡◌, ◌≤◌, length};
-ghost use Rattle.settings.specs.Answers.{no_record};
 ghost use Rattle.answers.specs.Fields.{flag, is_bit, are_fields, fields_of, record_of, numbers_of};
 
 use settings::super_opts::SuperOpts;
@@ -13,7 +12,7 @@ pub fn record_of(fields: &[i32]) -> SuperOpts
     ensures { result ≡ record_of fields.now }
 {
     if !are_fields(fields) {
-        return no_record();
+        return SuperOpts::default();
     }
     fields_of(fields)
 }
@@ -48,23 +47,6 @@ fn fields_of(fields: &[i32]) -> SuperOpts
         levels: fields[7],
         width: fields[8],
         height: fields[9],
-    }
-}
-
-fn no_record() -> SuperOpts
-    ensures { result ≡ no_record }
-{
-    SuperOpts {
-        pel: 0,
-        gpu: 0,
-        scale_down: 0,
-        scale_up: 0,
-        full: false,
-        rc: false,
-        lean: false,
-        levels: 0,
-        width: 0,
-        height: 0,
     }
 }
 

@@ -1,6 +1,6 @@
 // An answer put at the front of a lent slice, and its number: 15 where the slice is too short, which comes after 1 to 14 and before the rest.
-// First the numbers of a test and of a refusal, and whether two slices are too short; last numbers, a word, sizes and a layout put.
-ghost use Rattle.std.specs.Prelude.{◌≡◌, [], ◌∷◌, ltb};
+// First the numbers of a test and of a refusal, and whether two slices are too short; last what is told put, and a layout.
+ghost use Rattle.std.specs.Prelude.{◌≡◌, ltb};
 ghost use Rattle.settings.specs.Answers.{answer, number, tested};
 ghost use Rattle.layouts.specs.Refusals.{layout_no};
 ghost use Rattle.stored.specs.Layout.{stored_of};
@@ -8,17 +8,17 @@ ghost use Rattle.answers.specs.Lent.{lowest, no_room, tells};
 
 use crate::record::FIELDS;
 use layouts::layout::Layout;
-use settings::refusal::{Refusal, Tested};
+use settings::refusal::Refusal;
 use stored::layout::{LAYOUT, fill};
 
 pub const TOO_SHORT: u32 = 15;
 
-pub fn number(t: Tested) -> u32
+pub fn number(t: Result<(), Refusal>) -> u32
     ensures { result ≡ tested t }
 {
     match t {
-        Tested::Fine => 0,
-        Tested::Refused(f) => f.number(),
+        Ok(()) => 0,
+        Err(f) => f.number(),
     }
 }
 
@@ -43,37 +43,13 @@ pub fn no_room(fields: usize, after: usize) -> bool
     (fields < FIELDS) | (after < 1)
 }
 
-pub fn put_numbers(out: &mut [i32], values: &[i32]) -> u32
+pub fn put<T: Copy>(out: &mut [T], values: &[T]) -> u32
     ensures { answer result out.new ≡ tells 0 values.now out.old }
 {
     if out.len() < values.len() {
         return TOO_SHORT;
     }
-    for i in 0..values.len() {
-        out[i] = values[i];
-    }
-    0
-}
-
-pub fn put_word(out: &mut [u64], word: u64) -> u32
-    ensures { answer result out.new ≡ tells 0 (word ∷ []) out.old }
-{
-    if out.len() < 1 {
-        return TOO_SHORT;
-    }
-    out[0] = word;
-    0
-}
-
-pub fn put_sizes(out: &mut [usize], values: &[usize]) -> u32
-    ensures { answer result out.new ≡ tells 0 values.now out.old }
-{
-    if out.len() < values.len() {
-        return TOO_SHORT;
-    }
-    for i in 0..values.len() {
-        out[i] = values[i];
-    }
+    out[..values.len()].copy_from_slice(values);
     0
 }
 

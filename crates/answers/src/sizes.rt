@@ -28,14 +28,12 @@ pub fn plane_numbers(p: Plane) -> [usize; PLANE]
 pub fn parts_numbers(p: Parts) -> [usize; PARTS]
     ensures { result ≡ parts_numbers p }
 {
-    let y = p.y;
     let u = p.u;
     let v = p.v;
-    let needs = p.needs;
     [
-        y.start,
-        y.pitch,
-        y.length,
+        p.y.start,
+        p.y.pitch,
+        p.y.length,
         u.start,
         u.pitch,
         u.length,
@@ -43,7 +41,7 @@ pub fn parts_numbers(p: Parts) -> [usize; PARTS]
         v.pitch,
         v.length,
         p.length,
-        needs.spill,
-        needs.scratch,
+        p.needs.spill,
+        p.needs.scratch,
     ]
 }

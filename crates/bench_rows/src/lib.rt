@@ -5,6 +5,7 @@ use filters::half_pel::HalfPel;
 use filters::halving::{ReduceFilter, deinterleave};
 use filters::rows::{copy_row, mean_row, zero_row};
 
+// The numbers are those of the C interface, as is the length of each row.
 fn filter(k: u32) -> ReduceFilter {
     match k {
         1 => ReduceFilter::Average,

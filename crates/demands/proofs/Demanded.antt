@@ -21,7 +21,7 @@ use Rattle.settings.proofs.Accepted.{fine, within, record_none}
 use Rattle.settings.proofs.Told.{filtered, filtered_packs, halving as halvingOpen, upscale as upscaleOpen, number_by, read_by, read_case, at_21, at_22, canon_four, packs_code, code_packs, none_exact, tells_exact, only_exact}
 use Rattle.longhands.specs.LittleEndian.{bytes}
 use Rattle.filters.specs.declared.halving.ReduceFilter.TheVariants.{Average}
-use Rattle.filters.specs.declared.halving.Chosen.TheVariants.{Filter, NoFilter}
+use Rattle.std.specs.declared.option.Option.TheVariants.{Some, None}
 use Rattle.filters.specs.declared.half_pel.HalfPel.TheVariants.{CatmullRom}
 use Rattle.filters.specs.declared.half_pel.Upscale.TheVariants.{Means, Kernel}
 use Rattle.filters.specs.Halve.{chosen}
@@ -91,11 +91,11 @@ zeros_bytes l e = ap bytes e ∙ bytes_rep (length l) 0 refl
 different : (m n : List ℕ) (i j a b : ℕ) → i ≡ j → get_or m i 0 ≡ a → get_or n j 0 ≡ b → (a ≡ b → ⊥) → m ≡ n → ⊥
 different m n i j a b ij ea eb ne e = ne (sym ea ∙ ap (λ (l : List ℕ). get_or l i 0) e ∙ ap (λ (k : ℕ). get_or n k 0) ij ∙ eb)
 
-chosen_0 : chosen (pos 0) ≡ Filter Average
+chosen_0 : chosen (pos 0) ≡ Some Average
 unfolding chosen
 chosen_0 = refl
 
-chosen_5 : chosen (pos 5) ≡ NoFilter
+chosen_5 : chosen (pos 5) ≡ None
 unfolding chosen
 chosen_5 = refl
 

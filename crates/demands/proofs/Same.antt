@@ -18,8 +18,8 @@ use Rattle.settings.proofs.Accepted.{fine, is_nat_pos}
 use Rattle.settings.proofs.Words.{Agree, same_word}
 use Rattle.settings.proofs.Told.{filtered_packs, four_or_not, canon_accepted, canon_four, packs_canon, code_packs, read_case, at_0, halving as halvingOpen, upscale as upscaleOpen}
 use Rattle.filters.specs.declared.halving.ReduceFilter.{ReduceFilter}
-use Rattle.filters.specs.declared.halving.Chosen.{Chosen}
-use Rattle.filters.specs.declared.halving.Chosen.TheVariants.{Filter, NoFilter}
+use Rattle.std.specs.declared.option.Option.{Option}
+use Rattle.std.specs.declared.option.Option.TheVariants.{Some, None}
 use Rattle.filters.specs.Halve.{chosen}
 use Rattle.filters.specs.Refine.{upscale}
 use Rattle.filters.proofs.Tables.{tab_ext}
@@ -38,10 +38,10 @@ steps_none : (step : ℕ → List ℕ → List ℕ) (n : ℕ) (c : List ℕ) →
 unfolding steps
 steps_none step n c e = rw e
 
-halved_none : (q : Layout) (src : List ℕ) (sp len : ℕ) (ch : Chosen) (c : List ℕ) → levels_of q ≤ 1 → halved q src sp len ch c ≡ c
+halved_none : (q : Layout) (src : List ℕ) (sp len : ℕ) (ch : Option ReduceFilter) (c : List ℕ) → levels_of q ≤ 1 → halved q src sp len ch c ≡ c
 unfolding halved_by
-halved_none q src sp len (Filter f) c le = steps_none (λ i. halve_level q src sp len f (i + 1)) (levels_of q - 1) c (omega arith)
-halved_none q src sp len NoFilter c le = refl
+halved_none q src sp len (Some f) c le = steps_none (λ i. halve_level q src sp len f (i + 1)) (levels_of q - 1) c (omega arith)
+halved_none q src sp len None c le = refl
 
 -- down, with one level at most
 pub built_down : (r : SuperOpts) (d : ℤ) (g : Inputs) (len : ℕ) (c : List ℕ) → level_count r ≤ 1 → built (with_layout (with_down r d) g) g.plane g.src_pitch len c ≡ built (with_layout r g) g.plane g.src_pitch len c
@@ -96,12 +96,12 @@ module _ (r : SuperOpts) (u : ℤ) (rc lean : Bool) (g : Inputs) (len : ℕ) whe
   unfolding level_by fused_at
   level_same f l c = let at = offset_same r r.scale_down u rc lean g in rw (at l, at (l - 1))
 
-  halved_same : (ch : Chosen) (c : List ℕ) → halved (with_layout still g) g.plane g.src_pitch len ch c ≡ halved (with_layout r g) g.plane g.src_pitch len ch c
+  halved_same : (ch : Option ReduceFilter) (c : List ℕ) → halved (with_layout still g) g.plane g.src_pitch len ch c ≡ halved (with_layout r g) g.plane g.src_pitch len ch c
   unfolding halved_by
-  halved_same (Filter f) c =
+  halved_same (Some f) c =
       steps_same (λ i. halve_level (with_layout still g) g.plane g.src_pitch len f (i + 1)) (λ i. halve_level (with_layout r g) g.plane g.src_pitch len f (i + 1)) (level_count r - 1) c
       (λ i e. level_same f (i + 1) e)
-  halved_same NoFilter c = refl
+  halved_same None c = refl
 
 -- up, where it doesn't matter
 pub built_up : (r : SuperOpts) (u : ℤ) (g : Inputs) (len : ℕ) (c : List ℕ) → up_matters r ≡ false → built (with_layout (with_up r u) g) g.plane g.src_pitch len c ≡ built (with_layout r g) g.plane g.src_pitch len c

@@ -1,11 +1,12 @@
 -- One outcome: no second answer, row, frame, spill or scratch meets the contract of a public call (`OneOutcome`), by one law (`determined`). The calls of `settings` and `longhands`, proved there, are named among the imports; then come the rows of `filters`, the inner calls of `settings`, `layouts`, `stored`, `lookups` and `builder`, and last the public calls of `stored`, `lookups` and `planes`, `build_plane` by the inner call that it makes. docs/EXCEPTIONS.md has those that aren't here. Assumes nothing.
+use Rattle.std.specs.Prelude.{Result, ⊤}
 use mathlib.Core.Bool.{true}
 use mathlib.Core.List.{List}
 use Prim.Native.Nat.{ℕ}
 use contract.Lifetimes.{Lfts}
-use Rattle.settings.specs.declared.refusal.Tested.{Tested}
+use Rattle.settings.specs.declared.refusal.Refusal.{Refusal}
 use Rattle.settings.proofs.Outcome.{OneOutcome, determined, itself}
-use Rattle.settings.proofs.Known.{tested_known}
+use Rattle.settings.proofs.Known.{tested_known, outcome_known}
 use Rattle.filters.proofs.rows.mean.Reads as mean_reads
 use Rattle.filters.proofs.rows.mean_row.Reads as mean_row_reads
 use Rattle.filters.proofs.rows.copy_row.Reads as copy_row_reads
@@ -21,9 +22,10 @@ use Rattle.filters.proofs.halving.cubic_rest.Reads as cubic_rest_reads
 use Rattle.filters.proofs.half_pel.HalfPel.from_option.Reads as half_pel_from_option_reads
 use Rattle.filters.proofs.half_pel.HalfPel.vertical.Reads as half_vertical_reads
 use Rattle.filters.proofs.half_pel.HalfPel.horizontal.Reads as half_horizontal_reads
-use Rattle.layouts.proofs.Known.{placed_known, left_known}
-use Rattle.stored.proofs.Known.{laid_known}
-use Rattle.lookups.proofs.Known.{ended_known, needed_known, planed_known}
+use Rattle.layouts.specs.Answers.{no_needs, no_run}
+use Rattle.layouts.proofs.Known.{left_known}
+use Rattle.stored.specs.Layout.{no_stored}
+use Rattle.lookups.specs.Answers.{no_level_plane}
 use Rattle.stored.proofs.layout.fill.Reads as fill_reads
 use Rattle.stored.proofs.layout.level_regions.Reads as level_regions_reads
 use Rattle.lookups.proofs.ends.written_end.Reads as written_end_reads
@@ -69,7 +71,7 @@ use Rattle.planes.proofs.Whole.{one_left}
 use Rattle.planes.proofs.build.build_spilled.Reads as build_spilled_reads
 use Rattle.planes.proofs.build.build_plane.Reads as build_plane_reads
 use Rattle.planes.proofs.build.build_plane_by.Reads as build_plane_by_reads
-pub use Rattle.settings.proofs.Unique.{from_opt_unique, accepted_unique, pack_data_unique, super_height_unique, super_width_unique, read_word_unique, prepare_alike_unique, reduce_dim_unique, naturals_unique, number_unique, then_refuse_unique, is_fine_unique, natural_unique, bit_unique, to_bits_unique, from_bits_unique}
+pub use Rattle.settings.proofs.Unique.{from_opt_unique, accepted_unique, pack_data_unique, super_height_unique, super_width_unique, read_word_unique, prepare_alike_unique, reduce_dim_unique, naturals_unique, number_unique, refuse_if_unique, natural_unique, bit_unique, to_bits_unique, from_bits_unique}
 pub use Rattle.longhands.proofs.Unique.{read_longhand_unique, write_longhand_unique}
 
 -- ---- the rows of `filters`
@@ -162,7 +164,7 @@ pub bad_pitch_unique : (κs : Lfts 0) → OneOutcome (bad_pitch_reads.Post κs) 
 bad_pitch_unique κs x r s e f p q = determined itself p q
 
 pub row_in_unique : (κs : Lfts 0) → OneOutcome (row_in_reads.Post κs) (λ r e. r)
-row_in_unique κs x r s e f p q = determined placed_known p q
+row_in_unique κs x r s e f p q = determined (outcome_known no_run) p q
 
 pub hand_out_unique : (κs : Lfts 1) → OneOutcome {O = (ℕ × ℕ) × List ℕ} (hand_out_reads.Post κs) (λ r e. (r.ref_ptr, r.now))
 hand_out_unique κs x r s e f p q = rw (determined itself p.0 q.0, determined itself p.1 q.1)
@@ -171,7 +173,7 @@ pub stored_unique : (κs : Lfts 0) → OneOutcome (stored_reads.Post κs) (λ r 
 stored_unique κs x r s e f p q = determined itself p q
 
 pub placed_at_unique : (κs : Lfts 0) → OneOutcome (placed_at_reads.Post κs) (λ r e. r)
-placed_at_unique κs x r s e f p q = determined placed_known p q
+placed_at_unique κs x r s e f p q = determined (outcome_known no_run) p q
 
 pub fuses_unique : (κs : Lfts 0) → OneOutcome (fuses_reads.Post κs) (λ r e. r)
 fuses_unique κs x r s e f p q = determined itself p q
@@ -218,40 +220,40 @@ fill_unique κs x r s e f p q = determined itself p q
 
 -- ---- the calls of `stored`, `lookups` and `planes`
 pub level_regions_unique : (κs : Lfts 0) → OneOutcome (level_regions_reads.Post κs) (λ r e. r)
-level_regions_unique κs x r s e f p q = determined laid_known p q
+level_regions_unique κs x r s e f p q = determined (outcome_known no_stored) p q
 
 pub stored_tested_unique : (κs : Lfts 1) → OneOutcome (stored_tested_reads.Post κs) (λ r e. r)
 stored_tested_unique κs x r s e f p q = determined tested_known p q
 
 pub change_unique : (κs : Lfts 1) → OneOutcome (change_reads.Post κs) (λ r e. r)
-change_unique κs x r s e f p q = determined laid_known p q
+change_unique κs x r s e f p q = determined (outcome_known no_stored) p q
 
 pub written_end_unique : (κs : Lfts 1) → OneOutcome (written_end_reads.Post κs) (λ r e. r)
-written_end_unique κs x r s e f p q = determined ended_known p q
+written_end_unique κs x r s e f p q = determined (outcome_known 0) p q
 
 pub needs_unique : (κs : Lfts 1) → OneOutcome (needs_reads.Post κs) (λ r e. r)
-needs_unique κs x r s e f p q = determined needed_known p q
+needs_unique κs x r s e f p q = determined (outcome_known no_needs) p q
 
 pub row_tested_unique : (κs : Lfts 1) → OneOutcome (row_tested_reads.Post κs) (λ r e. r)
 row_tested_unique κs x r s e f p q = determined tested_known p q
 
 pub row_place_unique : (κs : Lfts 1) → OneOutcome (row_place_reads.Post κs) (λ r e. r)
-row_place_unique κs x r s e f p q = determined placed_known p q
+row_place_unique κs x r s e f p q = determined (outcome_known no_run) p q
 
 pub level_plane_unique : (κs : Lfts 1) → OneOutcome (level_plane_reads.Post κs) (λ r e. r)
-level_plane_unique κs x r s e f p q = determined planed_known p q
+level_plane_unique κs x r s e f p q = determined (outcome_known no_level_plane) p q
 
 -- the bytes of the row, and where they lie
 pub row_unique : (κs : Lfts 2) → OneOutcome {O = (ℕ × ℕ) × List ℕ} (row_reads.Post κs) (λ r e. (r.ref_ptr, r.now))
 row_unique κs x r s e f p q = rw (determined itself p.0 q.0, determined itself p.1 q.1)
 
 -- the answer and the frame
-pub clear_margins_unique : (κs : Lfts 2) → OneOutcome {O = Tested × List ℕ} (clear_margins_reads.Post κs) (λ r e. (r, e.0.now))
+pub clear_margins_unique : (κs : Lfts 2) → OneOutcome {O = Result ⊤ Refusal × List ℕ} (clear_margins_reads.Post κs) (λ r e. (r, e.0.now))
 clear_margins_unique κs x r s e f p q = determined left_known {a = (r, e.0.now)} {b = (s, f.0.now)} p q
 
 -- the answer, the frame, and what spill and scratch are left as
-pub build_plane_by_unique : (κs : Lfts 5) → OneOutcome {O = Tested × List ℕ × List ℕ × List ℕ} (build_plane_by_reads.Post κs) (λ r e. (r, e.1.0.now, e.1.1.0.now, e.1.1.1.0.now))
+pub build_plane_by_unique : (κs : Lfts 5) → OneOutcome {O = Result ⊤ Refusal × List ℕ × List ℕ × List ℕ} (build_plane_by_reads.Post κs) (λ r e. (r, e.1.0.now, e.1.1.0.now, e.1.1.1.0.now))
 build_plane_by_unique κs x r s e f p q = one_left p q
 
-pub build_plane_unique : (κs : Lfts 5) → OneOutcome {O = Tested × List ℕ × List ℕ × List ℕ} (build_plane_reads.Post κs) (λ r e. (r, e.0.now, e.1.0.now, e.1.1.0.now))
+pub build_plane_unique : (κs : Lfts 5) → OneOutcome {O = Result ⊤ Refusal × List ℕ × List ℕ × List ℕ} (build_plane_reads.Post κs) (λ r e. (r, e.0.now, e.1.0.now, e.1.1.0.now))
 build_plane_unique κs x r s e f p q = build_plane_by_unique κs (true, x) r s (true, e) (true, f) p q

@@ -19,8 +19,9 @@ use Rattle.settings.specs.Check.{accepted, pel_of, luma_w, luma_h, level_count}
 use Rattle.settings.proofs.Tests.{and_left, and_right, or_none, clash}
 use Rattle.settings.proofs.Accepted.{fine}
 use Rattle.filters.specs.declared.halving.ReduceFilter.TheVariants.{Average}
-use Rattle.filters.specs.declared.halving.Chosen.{Chosen}
-use Rattle.filters.specs.declared.halving.Chosen.TheVariants.{Filter, NoFilter}
+use Rattle.filters.specs.declared.halving.ReduceFilter.{ReduceFilter}
+use Rattle.std.specs.declared.option.Option.{Option}
+use Rattle.std.specs.declared.option.Option.TheVariants.{Some, None}
 use Rattle.filters.specs.declared.half_pel.HalfPel.{HalfPel}
 use Rattle.filters.specs.declared.half_pel.Upscale.{Upscale}
 use Rattle.filters.specs.declared.half_pel.Upscale.TheVariants.{Means, Kernel}
@@ -231,16 +232,16 @@ module _ (x : SuperOpts) (good : accepted x ≡ true) (lv : 1 ≤ level_count x)
     past_end = omega (arith, level2_at, offset_mono q 2 (level_count x) two, ends)
 
     -- no filter
-    left : Has t1 0 (halved q S W len NoFilter first)
+    left : Has t1 0 (halved q S W len None first)
     unfolding halved_by
     left =
         let has = zeros_at end (spill_need q) t1 (omega (arith, past_end)) in
         cases (Has t1 0) x.full (λ e. has_after (copied_past q S W (omega (arith, w_is)) (level1_past e)) has) (λ e. has)
 
-    pub unwritten : chosen x.scale_down ≡ NoFilter → get_or (leaves x (flat x end)) t1 0 ≡ 0
+    pub unwritten : chosen x.scale_down ≡ None → get_or (leaves x (flat x end)) t1 0 ≡ 0
     unwritten none =
         frame_byte t1 0 (omega (arith, past_end))
-        (built_is (Has t1 0) q S W len canvas lv (has_after refined_flat (subst (λ (z : Chosen). Has t1 0 (halved q S W len z first)) (sym none) left)))
+        (built_is (Has t1 0) q S W len canvas lv (has_after refined_flat (subst (λ (z : Option ReduceFilter). Has t1 0 (halved q S W len z first)) (sym none) left)))
 
     -- average
     four_first : x.full ≡ true → Four 0 P first
@@ -261,19 +262,19 @@ module _ (x : SuperOpts) (good : accepted x ≡ true) (lv : 1 ≤ level_count x)
         (λ e. stored_first Average (offset_at q 0) P (region_at q 1) first (omega (arith, h1_some)) (omega (arith, w1_some)) (omega arith) long_first (subst (λ (b : ℕ). Four b P first) (sym (offset_first q)) (four_first (or_none x.full e))))
         (λ e. source_first Average S W P (region_at q 1) first (omega (arith, h1_some)) (omega (arith, w1_some)) (omega arith) long_first source_four))
 
-    averaged : is_nat x.scale_down 4 ≡ false → Has t1 255 (halved q S W len (Filter Average) first)
+    averaged : is_nat x.scale_down 4 ≡ false → Has t1 255 (halved q S W len (Some Average) first)
     unfolding halved_by
     averaged other =
         steps_first (Has t1 255) (λ i. halve_level q S W len Average (i + 1)) (level_count x - 1) first (omega arith) (level_one other)
         (λ y d m some has. has_after (level_keeps q S W len Average (y + 1) (omega (arith, level2_at, offset_mono q 2 (y + 1) (omega arith)))) has)
 
-    pub written : chosen x.scale_down ≡ Filter Average → is_nat x.scale_down 4 ≡ false → get_or (leaves x (flat x end)) t1 0 ≡ 255
+    pub written : chosen x.scale_down ≡ Some Average → is_nat x.scale_down 4 ≡ false → get_or (leaves x (flat x end)) t1 0 ≡ 255
     written average other =
         frame_byte t1 255 (omega (arith, past_end))
-        (built_is (Has t1 255) q S W len canvas lv (has_after refined_flat (subst (λ (z : Chosen). Has t1 255 (halved q S W len z first)) (sym average) (averaged other))))
+        (built_is (Has t1 255) q S W len canvas lv (has_after refined_flat (subst (λ (z : Option ReduceFilter). Has t1 255 (halved q S W len z first)) (sym average) (averaged other))))
 
   -- ---- the last byte of row 0 of the horizontal plane
-  halved_keeps : {i v : ℕ} (ch : Chosen) → i < t1 → KeepsByte i v (halved q S W len ch)
+  halved_keeps : {i v : ℕ} (ch : Option ReduceFilter) → i < t1 → KeepsByte i v (halved q S W len ch)
   halved_keeps ch lt = halved_kept q S S W len (λ f l some there. level_off q S W len f l (omega (arith, offset_mono q 1 l some))) ch
 
   module _ (on : refines q ≡ true) (a : ℕ) (at : Placed (pel_of x) a) where

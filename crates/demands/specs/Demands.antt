@@ -1,9 +1,7 @@
 -- Demand 3, byte for byte: what reading a word answers, over the bytes that the records behind it leave. Types only: proofs/Demand.antt has the proof about the calls, from that over the definitions in proofs/Demanded.antt.
 -- First what a build is given; then the demand, each part cited, of any `Behind`, the records that pack to a word, and any `Leaves r g m`, that a build by the record r, given g, leaves the bytes m; then what these two are by the calls' contracts; last what they are by the definitions.
-use Rattle.std.specs.Prelude.{ℕ, ◌≡◌, ◌↔◌, ◌⊎◌, true, List, ℤ, length, replicate}
-use Rattle.settings.specs.declared.refusal.Tested.TheVariants.{Fine}
+use Rattle.std.specs.Prelude.{ℕ, ◌≡◌, ◌↔◌, ◌⊎◌, true, List, ℤ, length, replicate, Ok}
 use Rattle.settings.specs.declared.super_opts.SuperOpts.{SuperOpts}
-use Rattle.settings.specs.declared.super_opts.Packed.TheVariants.{Word}
 use Rattle.settings.specs.declared.word.Description.{Description}
 use Rattle.settings.specs.Reading.{describe}
 use Rattle.settings.specs.Answers.{Answer, tested, packed, Returns, pack_answer}
@@ -98,7 +96,7 @@ pub record Demand3 (Behind : SuperOpts → Type 0) (Leaves : SuperOpts → Input
 -- ---- by the calls' contracts
 -- `from_opt` returns the record for some i32 settings and size, and `pack_data` answers the word v for it
 abbrev pub PacksTo : ℕ → SuperOpts → Type 0
-PacksTo v r = Returns r × (packed (Word v) ≡ pack_answer r)
+PacksTo v r = Returns r × (packed (Ok v) ≡ pack_answer r)
 
 -- with the layout that making gives, and some spill and scratch, `build_plane` answers that it is done, and leaves m in the frame
 -- the layout is one for all records behind a word, and behind words that prepare alike (`one_layout` and `alike_layout` of proofs/Same.antt and Alike.antt)
@@ -107,7 +105,7 @@ pub record CallLeaves (r : SuperOpts) (g : Inputs) (m : List ℕ) : Type 0 where
   pub scratch : List ℕ
   pub spill' : List ℕ
   pub scratch' : List ℕ
-  pub call : BuildLeaves r (stored_of (with_layout r g)) g.plane g.src_pitch g.frame spill scratch (tested Fine) m spill' scratch'
+  pub call : BuildLeaves r (stored_of (with_layout r g)) g.plane g.src_pitch g.frame spill scratch (tested (Ok tt)) m spill' scratch'
 
 -- ---- by the definitions
 -- the build isn't refused, with as much spill and scratch as it needs

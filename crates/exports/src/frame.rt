@@ -6,11 +6,10 @@ ghost use Rattle.answers.specs.Fields.{record_of};
 ghost use Rattle.exports.specs.Calls.{parts_tells, row_in_tells};
 
 use answers::record::record_of;
-use answers::room::{lowest, number, put_sizes};
+use answers::room::{lowest, number, put};
 use answers::sizes::{PARTS, parts_numbers};
 use frames::build::build_frame;
-use frames::parts::{Parted, frame_parts, frame_row_place};
-use layouts::rows::Placed;
+use frames::parts::{frame_parts, frame_row_place};
 
 // Tells of Y, U and V where its part starts, its pitch and its length, then the length of all three, then the bytes that a build needs of spill and of scratch. Refusals 6, 15, 23, 24.
 #[unsafe(no_mangle)]
@@ -19,8 +18,8 @@ pub extern "C" fn sill_frame_parts(fields: &[i32], parts: &mut [usize]) -> u32
 {
     let opts = record_of(fields);
     match frame_parts(opts) {
-        Parted::Parts(p) => put_sizes(parts, &parts_numbers(p)),
-        Parted::Refused(f) => lowest(f, parts.len(), PARTS),
+        Ok(p) => put(parts, &parts_numbers(p)),
+        Err(f) => lowest(f, parts.len(), PARTS),
     }
 }
 
@@ -39,8 +38,8 @@ pub extern "C" fn sill_frame_row(
 {
     let opts = record_of(fields);
     match frame_row_place(opts, frame, part, level, plane, y) {
-        Placed::At(run) => put_sizes(place, &[run.offset, run.length]),
-        Placed::Refused(f) => lowest(f, place.len(), 2),
+        Ok(run) => put(place, &[run.offset, run.length]),
+        Err(f) => lowest(f, place.len(), 2),
     }
 }
 

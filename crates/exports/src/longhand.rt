@@ -6,8 +6,8 @@ ghost use Rattle.answers.specs.Fields.{record_of};
 ghost use Rattle.exports.specs.Calls.{longhand_read_no, fields_tells, place_tells};
 
 use answers::record::{numbers_of, record_of};
-use answers::room::{TOO_SHORT, no_room, number, put_numbers, put_sizes};
-use longhands::longhand::{Read, UNKNOWN_KIND, read_longhand, write_longhand};
+use answers::room::{TOO_SHORT, no_room, number, put};
+use longhands::longhand::{UNKNOWN_KIND, Unread, read_longhand, write_longhand};
 
 // Refusals 6, 15.
 #[unsafe(no_mangle)]
@@ -28,14 +28,14 @@ pub extern "C" fn sill_longhand_read(bytes: &[u8], fields: &mut [i32], after: &m
         return TOO_SHORT;
     }
     match read_longhand(bytes) {
-        Read::Record(read) => {
-            put_numbers(fields, &numbers_of(read.opts));
-            put_sizes(after, &[read.after])
+        Ok(read) => {
+            put(fields, &numbers_of(read.opts));
+            put(after, &[read.after])
         }
-        Read::Unknown(place) => {
-            put_sizes(after, &[place]);
+        Err(Unread::Kind(place)) => {
+            put(after, &[place]);
             UNKNOWN_KIND
         }
-        Read::Refused(f) => f.number(),
+        Err(Unread::Refused(f)) => f.number(),
     }
 }

@@ -7,17 +7,14 @@ ghost use Rattle.answers.specs.Fields.{record_of};
 ghost use Rattle.exports.specs.Calls.{layout_of, layout_tells, change_tells, end_tells, needs_tells, row_tells, plane_tells};
 
 use answers::record::record_of;
-use answers::room::{lowest, number, put_layout, put_sizes};
+use answers::room::{lowest, number, put, put_layout};
 use answers::sizes::{NEEDS, PLANE, need_numbers, plane_numbers};
 use layouts::layout::Layout;
 use layouts::levels;
-use layouts::rows::Placed;
 use lookups::ends;
-use lookups::ends::{Ended, Needed};
 use lookups::margins::clear_margins;
-use lookups::rows::{Planed, level_plane, row_place};
+use lookups::rows::{level_plane, row_place};
 use planes::build::build_plane;
-use settings::refusal::Tested;
 use stored::layout::{LAYOUT, change};
 
 fn layout_of(fields: &[i32], x_shift: u32, y_shift: u32, pitch: usize) -> Layout
@@ -44,8 +41,8 @@ pub extern "C" fn sill_layout(
 {
     let q = layout_of(fields, x_shift, y_shift, pitch);
     match levels::tested(q) {
-        Tested::Fine => put_layout(layout, q),
-        Tested::Refused(f) => lowest(f, layout.len(), LAYOUT),
+        Ok(()) => put_layout(layout, q),
+        Err(f) => lowest(f, layout.len(), LAYOUT),
     }
 }
 
@@ -60,14 +57,9 @@ pub extern "C" fn sill_layout_change(
 ) -> u32
     ensures { answer result layout.new ≡ change_tells (record_of fields.now) x_shift y_shift pitch layout.old }
 {
-    let laid = change(record_of(fields), layout, x_shift, y_shift, pitch);
-    let tested = laid.tested;
-    match tested {
-        Tested::Fine => {
-            let made = laid.layout;
-            put_sizes(layout, &made)
-        }
-        Tested::Refused(f) => f.number(),
+    match change(record_of(fields), layout, x_shift, y_shift, pitch) {
+        Ok(made) => put(layout, &made),
+        Err(f) => f.number(),
     }
 }
 
@@ -77,8 +69,8 @@ pub extern "C" fn sill_written_end(fields: &[i32], layout: &[usize], end: &mut [
     ensures { answer result end.new ≡ end_tells (record_of fields.now) layout.now end.old }
 {
     match ends::written_end(record_of(fields), layout) {
-        Ended::End(n) => put_sizes(end, &[n]),
-        Ended::Refused(f) => lowest(f, end.len(), 1),
+        Ok(n) => put(end, &[n]),
+        Err(f) => lowest(f, end.len(), 1),
     }
 }
 
@@ -88,8 +80,8 @@ pub extern "C" fn sill_needs(fields: &[i32], layout: &[usize], needs: &mut [usiz
     ensures { answer result needs.new ≡ needs_tells (record_of fields.now) layout.now needs.old }
 {
     match ends::needs(record_of(fields), layout) {
-        Needed::Needs(n) => put_sizes(needs, &need_numbers(n)),
-        Needed::Refused(f) => lowest(f, needs.len(), NEEDS),
+        Ok(n) => put(needs, &need_numbers(n)),
+        Err(f) => lowest(f, needs.len(), NEEDS),
     }
 }
 
@@ -115,8 +107,8 @@ pub extern "C" fn sill_row(
     ensures { answer result place.new ≡ row_tells (record_of fields.now) layout.now frame level plane y place.old }
 {
     match row_place(record_of(fields), layout, frame, level, plane, y) {
-        Placed::At(run) => put_sizes(place, &[run.offset, run.length]),
-        Placed::Refused(f) => lowest(f, place.len(), 2),
+        Ok(run) => put(place, &[run.offset, run.length]),
+        Err(f) => lowest(f, place.len(), 2),
     }
 }
 
@@ -133,8 +125,8 @@ pub extern "C" fn sill_level_plane(
     ensures { answer result place.new ≡ plane_tells (record_of fields.now) layout.now frame level plane place.old }
 {
     match level_plane(record_of(fields), layout, frame, level, plane) {
-        Planed::At(p) => put_sizes(place, &plane_numbers(p)),
-        Planed::Refused(f) => lowest(f, place.len(), PLANE),
+        Ok(p) => put(place, &plane_numbers(p)),
+        Err(f) => lowest(f, place.len(), PLANE),
     }
 }
 

@@ -10,11 +10,11 @@ ghost use Rattle.exports.specs.Calls.{check_tells, pack_tells, read_tells, sizes
 
 use answers::given::settings_of;
 use answers::record::{FIELDS, numbers_of, record_of};
-use answers::room::{lowest, put_numbers, put_word};
+use answers::room::{lowest, put};
 use answers::told::{TOLD, told_numbers};
 use settings::refusal::Refusal;
-use settings::super_opts::{Checked, Packed, SuperOpts};
-use settings::word::{Told, prepare_alike, read_word};
+use settings::super_opts::SuperOpts;
+use settings::word::{prepare_alike, read_word};
 
 // Bit k of given says that the k-th of the seven settings is there. Tells the record's numbers. Refusals 1 to 5, 15.
 #[unsafe(no_mangle)]
@@ -35,8 +35,8 @@ pub extern "C" fn sill_check(
 {
     let opt = settings_of(given, pel, gpu, down, up, full, rc, lean);
     match SuperOpts::from_opt(opt, width, height) {
-        Checked::Accepted(opts) => put_numbers(fields, &numbers_of(opts)),
-        Checked::Refused(f) => lowest(f, fields.len(), FIELDS),
+        Ok(opts) => put(fields, &numbers_of(opts)),
+        Err(f) => lowest(f, fields.len(), FIELDS),
     }
 }
 
@@ -59,8 +59,8 @@ pub extern "C" fn sill_pack_data(fields: &[i32], word: &mut [u64]) -> u32
 {
     let opts = record_of(fields);
     match opts.pack_data() {
-        Packed::Word(w) => put_word(word, w),
-        Packed::Refused(f) => lowest(f, word.len(), 1),
+        Ok(w) => put(word, &[w]),
+        Err(f) => lowest(f, word.len(), 1),
     }
 }
 
@@ -70,8 +70,8 @@ pub extern "C" fn sill_read_word(word: u64, told: &mut [i32]) -> u32
     ensures { answer result told.new ≡ read_tells word told.old }
 {
     match read_word(word) {
-        Told::Tells(d) => put_numbers(told, &told_numbers(d)),
-        Told::Refused(f) => lowest(f, told.len(), TOLD),
+        Ok(d) => put(told, &told_numbers(d)),
+        Err(f) => lowest(f, told.len(), TOLD),
     }
 }
 
@@ -92,5 +92,5 @@ pub extern "C" fn sill_super_sizes(fields: &[i32], sizes: &mut [i32]) -> u32
     if !opts.accepted() {
         return lowest(Refusal::NoRecord, sizes.len(), 2);
     }
-    put_numbers(sizes, &[opts.accepted_width(), opts.accepted_height()])
+    put(sizes, &[opts.accepted_width(), opts.accepted_height()])
 }

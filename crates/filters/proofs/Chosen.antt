@@ -6,7 +6,7 @@ use lib.IntN.{ℤ, pos, negsuc}
 use mir.Syntax.{w32}
 use mir.Val.{of_z}
 use borrow.Author.Tests.{ne_eqb, lt-leb}
-use Rattle.filters.specs.declared.halving.Chosen.TheVariants.{NoFilter}
+use Rattle.std.specs.declared.option.Option.TheVariants.{None}
 use Rattle.filters.specs.declared.half_pel.HalfPel.TheVariants.{Wiener}
 use Rattle.filters.specs.declared.half_pel.Upscale.TheVariants.{Kernel}
 use Rattle.filters.specs.Halve.{chosen}
@@ -15,7 +15,7 @@ use Rattle.filters.specs.Refine.{upscale}
 above_one : (a : ℕ) → (a ≡ 0 → ⊥) → (a ≡ 1 → ⊥) → 1 < a
 above_one a n0 n1 = omega (arith, n0, n1)
 
-pub none_chosen : (z : ℤ) → (of_z w32 z ≡ 0 → ⊥) → (of_z w32 z ≡ 1 → ⊥) → (of_z w32 z ≡ 2 → ⊥) → (of_z w32 z ≡ 3 → ⊥) → (of_z w32 z ≡ 4 → ⊥) → NoFilter ≡ chosen z
+pub none_chosen : (z : ℤ) → (of_z w32 z ≡ 0 → ⊥) → (of_z w32 z ≡ 1 → ⊥) → (of_z w32 z ≡ 2 → ⊥) → (of_z w32 z ≡ 3 → ⊥) → (of_z w32 z ≡ 4 → ⊥) → None ≡ chosen z
 unfolding chosen
 none_chosen (pos a) n0 n1 n2 n3 n4 = rw (lt-leb a 1 (above_one a n0 n1), ne_eqb a 2 n2, ne_eqb a 3 n3, ne_eqb a 4 n4)
 none_chosen (negsuc a) n0 n1 n2 n3 n4 = refl

@@ -6,11 +6,11 @@ use Prim.Native.Nat.{ℕ, ◌+◌, ◌-◌, ◌≤◌, ◌<◌}
 use native.Mathlib.Nat.{le_of_suc-le-suc, eq-or-lt_of_le}
 use native.Mathlib.Numerals.{add-one}
 use native.Mathlib.Omega.{arith}
-use lib.ListN.{length, get_or, set, take, drop, length-set}
+use lib.ListN.{length, get_or, set, length-set}
 use lib.Seq.{get_or-set_same, get_or-set_other}
-use Rattle.filters.specs.Row.{tab, mean_of, means_of}
+use Rattle.filters.specs.Row.{tab}
 use Rattle.filters.specs.Inner.{laid}
-use Rattle.filters.proofs.Tables.{tab_length, tab_at, is_tab, take_from, means_from, back_length, back_front}
+use Rattle.filters.proofs.Tables.{tab_length, tab_at, is_tab, back_length, back_front}
 
 pub record Filled (f : ℕ → ℕ) (out : List ℕ) (n i : ℕ) : Type 0 where
   pub most : i ≤ n
@@ -39,22 +39,17 @@ pub filled_whole : {f : ℕ → ℕ} {out : List ℕ} {n i : ℕ} → Filled f o
 filled_whole {f} {out} {n} {i} h le = is_tab out f n h.long (λ j lt. h.done j (omega arith))
 
 -- w bytes laid from the first place not yet made on, by the rule
-pub filled_part : {f : ℕ → ℕ} {out : List ℕ} {n i : ℕ} → Filled f out n i → (w : ℕ) → i + w ≤ n → (k : List ℕ) → k ≡ tab (λ j. f (i + j)) w → Filled f (laid out i w k) n (i + w)
-filled_part {f} {out} {n} {i} h w fits k made =
+pub filled_part : {f : ℕ → ℕ} {out o : List ℕ} {n i : ℕ} → Filled f out n i → (w : ℕ) → i + w ≤ n → o ≡ laid out i w (tab (λ j. f (i + j)) w) → Filled f o n (i + w)
+filled_part {f} {out} {o} {n} {i} h w fits made =
+    let k = tab (λ j. f (i + j)) w in
     let e = i + w in
     let width : e - i ≡ w = omega arith in
-    let whole : length k ≡ e - i = ap length made ∙ tab_length (λ j. f (i + j)) w ∙ sym width in
+    let whole : length k ≡ e - i = tab_length (λ j. f (i + j)) w ∙ sym width in
     let inside : e ≤ length out = omega (arith, h.long) in
-    subst (λ (m : ℕ). Filled f (laid out i m k) n e) width
+    rw made
+    (subst (λ (m : ℕ). Filled f (laid out i m k) n e) width
     (record {
       most = fits;
       long = back_length out k i e (omega arith) inside whole ∙ h.long;
-      done = back_front out k i e (omega arith) inside whole f h.done (λ j lt. ap (λ (l : List ℕ). get_or l j 0) made ∙ tab_at (λ j. f (i + j)) w j (omega arith));
-    })
-
--- a block of means, and one of a copy
-pub means_part : (a b : List ℕ) {out o : List ℕ} {n i : ℕ} → Filled (λ j. mean_of (get_or a j 0) (get_or b j 0)) out n i → (w : ℕ) → i + w ≤ n → o ≡ laid out i w (means_of w (drop i a) (drop i b)) → Filled (λ j. mean_of (get_or a j 0) (get_or b j 0)) o n (i + w)
-means_part a b {out} {o} {n} {i} h w fits made = rw made (filled_part h w fits (means_of w (drop i a) (drop i b)) (means_from w i a b))
-
-pub copied_part : (row : List ℕ) {out o : List ℕ} {n i : ℕ} → Filled (λ j. get_or row j 0) out n i → (w : ℕ) → i + w ≤ n → n ≤ length row → o ≡ laid out i w (take w (drop i row)) → Filled (λ j. get_or row j 0) o n (i + w)
-copied_part row {out} {o} {n} {i} h w fits long made = rw made (filled_part h w fits (take w (drop i row)) (take_from w i row (omega arith)))
+      done = back_front out k i e (omega arith) inside whole f h.done (λ j lt. tab_at (λ j. f (i + j)) w j (omega arith));
+    }))

@@ -1,12 +1,9 @@
--- An integer known by its bits; a difference of naturals among the integers, and what holding it to 0..255 makes of it. Assumes nothing.
+-- A difference of naturals among the integers, and what holding it to 0..255 makes of it. Assumes nothing.
 use mathlib.Core.Path.{◌≡◌, sym, ap, ◌∙◌}
 use mathlib.Core.Logic.{⊎_elim}
 use Prim.Native.Nat.{ℕ, zero, suc, ◌+◌, ◌-◌, ◌/◌, ◌^◌, ◌≤◌, ◌<◌, min}
 use native.Mathlib.Omega.{arith}
 use native.Mathlib.Nat.{zero-div}
-use mir.Syntax.{w32}
-use mir.Val.{SFits, of_z, to_z}
-use mir.Facts.{to_z-of_z, to_z_pos}
 use lib.IntN.{ℤ, pos, negsuc, sub_ℕ, ◌+ℤ◌, ◌-ℤ◌}
 use borrow.Author.Tests.{lt-ltb, le-ltb}
 use Rattle.filters.specs.Refine.{shr, held}
@@ -53,7 +50,3 @@ held_sub a b k =
     ap (λ (z : ℤ). held (shr z k)) (sub_less a b lt) ∙ sym (ap (λ (x : ℕ). min 255 (x / 2 ^ k)) none ∙ ap (min 255) (zero-div (2 ^ k))))
     (λ (le : b ≤ a). ap (λ (z : ℤ). held (shr z k)) (sub_more a b le))
     (below_or a b)
-
--- the bits of z are the number n: z is n
-pub is_pos : (z : ℤ) (n : ℕ) → SFits w32 z → of_z w32 z ≡ n → n < 2 ^ 31 → z ≡ pos n
-is_pos z n fit e lt = sym (to_z-of_z fit) ∙ ap (to_z w32) e ∙ to_z_pos w32 lt

@@ -13,9 +13,9 @@ use Rattle.filters.specs.declared.halving.ReduceFilter.{ReduceFilter}
 use Rattle.filters.specs.declared.halving.ReduceFilter.TheVariants.{Average, Bilinear, Quadratic, Cubic}
 use Rattle.filters.specs.Row.{mean_of, six_at, sixes, around}
 use Rattle.filters.specs.Halve.{last_is_mean, is_edge, weigh, headed, horizontal_at, horizontal_row}
-use Rattle.filters.specs.Inner.{Reach, Apart, weighed_apart, with_last, reduced_apart}
+use Rattle.filters.specs.Inner.{Apart, weighed_apart, with_last, reduced_apart}
 use Rattle.filters.proofs.Tests.{below_or, and_no, or_yes}
-use Rattle.filters.proofs.Tables.{is_tab, tab_at, from_place}
+use Rattle.filters.proofs.Tables.{is_tab, tab_at}
 use Rattle.filters.proofs.Lengths.{sixes_length}
 
 headed_first : (v : List ℕ) → 0 < length v → mean_of (get_or v 0 0) (get_or v 1 0) ≡ get_or (headed v) 0 0
@@ -30,47 +30,6 @@ at : (l : List ℕ) {i j : ℕ} → i ≡ j → get_or l i 0 ≡ get_or l j 0
 at l e = ap (λ (k : ℕ). get_or l k 0) e
 
 -- ---- taken apart
-pub apart_none : {n : ℕ} {v s : List ℕ} → 2 * n + 2 ≤ length s → Apart n 0 v s
-apart_none fits = record { most = omega arith; room = fits; evens = λ j h. absurd (omega arith); odds = λ j h. absurd (omega arith) }
-
-module _ {n i x y : ℕ} {v s : List ℕ} (h : Apart n i v s) (lt : i < n) (even : x ≡ get_or v (2 * i) 0) (odd : y ≡ get_or v (2 * i + 1) 0) where
-  next : List ℕ
-  next = set (set s (i + 1) x) (n + (i + 1)) y
-
-  next_length : length next ≡ length s
-  unfolding next
-  next_length = simp length-set
-
-  next_even : get_or next (i + 1) 0 ≡ get_or v (2 * i) 0
-  unfolding next
-  next_even = get_or-set_other (set s (i + 1) x) (n + (i + 1)) (i + 1) y 0 (λ e. omega arith) ∙ get_or-set_same s (i + 1) x 0 (omega (arith, h.room)) ∙ even
-
-  next_odd : get_or next (n + (i + 1)) 0 ≡ get_or v (2 * i + 1) 0
-  unfolding next
-  next_odd = get_or-set_same (set s (i + 1) x) (n + (i + 1)) y 0 (omega (arith, length-set s (i + 1) x, h.room)) ∙ odd
-
-  next_other : (k : ℕ) → (k ≡ i + 1 → ⊥) → (k ≡ n + (i + 1) → ⊥) → get_or next k 0 ≡ get_or s k 0
-  unfolding next
-  next_other k p q = get_or-set_other (set s (i + 1) x) (n + (i + 1)) k y 0 q ∙ get_or-set_other s (i + 1) k x 0 p
-
-  pub apart_more : Apart n (i + 1) v (set (set s (i + 1) x) (n + (i + 1)) y)
-  unfolding next
-  apart_more =
-      record {
-        most = omega arith;
-        room = omega (arith, next_length, h.room);
-        evens = λ j l.
-            ⊎_elim
-            (λ (less : j < i). next_other (j + 1) (λ e. omega arith) (λ e. omega arith) ∙ h.evens j less)
-            (λ (le : i ≤ j). let e : j ≡ i = omega arith in rw e next_even)
-            (below_or j i);
-        odds = λ j l.
-            ⊎_elim
-            (λ (less : j < i). next_other (n + (j + 1)) (λ e. omega arith) (λ e. omega arith) ∙ h.odds j less)
-            (λ (le : i ≤ j). let e : j ≡ i = omega arith in rw e next_odd)
-            (below_or j i);
-      }
-
 pub apart_headed : {n m : ℕ} {v s : List ℕ} → Apart n n v s → 0 < length v → m ≡ mean_of (get_or v 0 0) (get_or v 1 0) → Apart n n (headed v) (set s 1 m)
 apart_headed {n} {m} {v} {s} h some is =
     record {
@@ -85,17 +44,6 @@ apart_headed {n} {m} {v} {s} h some is =
     }
 
 -- ---- the weights over the parts
-pub parts_fit : {n : ℕ} {s m1 c0 p1 p2 p3 : List ℕ} → 2 * n + 2 ≤ length s → m1 ≡ drop n s → c0 ≡ drop 1 s → p1 ≡ drop (n + 1) s → p2 ≡ drop 2 s → p3 ≡ drop (n + 2) s → Reach n s m1 c0 p1 p2 p3
-parts_fit {n} {s} fits e1 e2 e3 e4 e5 =
-    record {
-      in_m2 = omega arith;
-      in_m1 = from_place n s (omega arith) e1;
-      in_c0 = from_place 1 s (omega arith) e2;
-      in_p1 = from_place (n + 1) s (omega arith) e3;
-      in_p2 = from_place 2 s (omega arith) e4;
-      in_p3 = from_place (n + 2) s (omega arith) e5;
-    }
-
 module _ {n : ℕ} {w s : List ℕ} (h : Apart n n w s) (i : ℕ) (more : 0 < i) (lt : i < n) where
   at_m2 : get_or s i 0 ≡ get_or w (2 * i - 2) 0
   at_m2 = at s (omega arith) ∙ h.evens (i - 1) (omega arith) ∙ at w (omega arith)

@@ -1,20 +1,19 @@
 -- Half samples: what each place takes, a row down the rows, and a row whose places between the edges were written over. Assumes nothing.
-use mathlib.Core.Path.{◌≡◌, refl, sym, ap, ◌∙◌}
+use mathlib.Core.Path.{◌≡◌, sym, ap, ◌∙◌}
 use mathlib.Core.Bool.{true, false}
 use mathlib.Core.List.{List, ◌++◌}
 use mathlib.Core.Logic.{⊎_elim}
 use Prim.Native.Nat.{ℕ, ◌+◌, ◌-◌, ◌≤◌, ◌<◌}
-use native.Mathlib.Nat.{le_trans, min-le_left}
 use native.Mathlib.Omega.{arith}
 use lib.Dec.{ltb}
-use lib.ListN.{length, get_or, set, take, drop, length-append, length-take, length-drop, get_or-append}
+use lib.ListN.{length, get_or, set, take, drop, length-append, length-drop, get_or-append}
 use lib.Seq.{get_or-drop, length-take-le}
 use borrow.Author.Tests.{lt-ltb, le-ltb, le-leb, lt-leb}
 use Rattle.filters.specs.declared.half_pel.HalfPel.{HalfPel}
 use Rattle.filters.specs.declared.half_pel.HalfPel.TheVariants.{CatmullRom, Wiener}
 use Rattle.filters.specs.Row.{tab, mean_of, means_of, six_at, sixes, around}
 use Rattle.filters.specs.Refine.{near_edge, lead_of, tail_of, half_pel, half_sample, half_horizontal, half_vertical}
-use Rattle.filters.specs.Inner.{Reach, next_at, next_means}
+use Rattle.filters.specs.Inner.{next_at, next_means}
 use Rattle.filters.proofs.Tests.{below_or, or_yes}
 use Rattle.filters.proofs.Filling.{Filled, filled_more, filled_whole}
 use Rattle.filters.proofs.Tables.{tab_at, tab_length, tab_ext, take_tab, part_length, back_tab}
@@ -123,22 +122,6 @@ pub record Parts (a : ℕ) (r m1 c0 p1 p2 p3 : List ℕ) : Type 0 where
   pub at3 : p1 ≡ drop (a + 1) r
   pub at4 : p2 ≡ drop (a + 2) r
   pub at5 : p3 ≡ drop (a + 3) r
-
--- they reach as far as the places from a to n - z
-module _ (o r : List ℕ) (n z a : ℕ) (room : n ≤ length r) (some : 3 ≤ z) (many : a + z < n) where
-  part_fits : (x : List ℕ) (t : ℕ) → t ≤ a + 3 → x ≡ drop t r → length (take (n - z - a) (drop a o)) ≤ length x
-  part_fits x t near e = rw (e, length-take (n - z - a) (drop a o), length-drop t r) (le_trans (min-le_left (n - z - a) (length (drop a o))) (omega arith))
-
-  pub parts_reach : {m1 c0 p1 p2 p3 : List ℕ} → Parts a r m1 c0 p1 p2 p3 → Reach (length (take (n - z - a) (drop a o))) r m1 c0 p1 p2 p3
-  parts_reach {m1} {c0} {p1} {p2} {p3} parts =
-      record {
-        in_m2 = part_fits r 0 (omega arith) refl;
-        in_m1 = part_fits m1 (a - 1) (omega arith) parts.at1;
-        in_c0 = part_fits c0 a (omega arith) parts.at2;
-        in_p1 = part_fits p1 (a + 1) (omega arith) parts.at3;
-        in_p2 = part_fits p2 (a + 2) (omega arith) parts.at4;
-        in_p3 = part_fits p3 (a + 3) (omega arith) parts.at5;
-      }
 
 module _ (k : HalfPel) (n : ℕ) (r : List ℕ) {m1 c0 p1 p2 p3 : List ℕ} (parts : Parts (lead_of k) r m1 c0 p1 p2 p3) (many : lead_of k + tail_of k < n) where
   part_taps : (j : ℕ) → six_at (half_pel k) r m1 c0 p1 p2 p3 j ≡ around (half_pel k) r (lead_of k + j)

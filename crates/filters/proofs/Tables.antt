@@ -5,9 +5,9 @@ use mathlib.Core.Logic.{⊎_elim}
 use Prim.Native.Nat.{ℕ, zero, suc, ◌+◌, ◌-◌, ◌≤◌, ◌<◌}
 use native.Mathlib.Nat.{le_of_suc-le-suc, eq-or-lt_of_le}
 use native.Mathlib.Omega.{arith}
-use lib.ListN.{length, get_or, take, drop, replicate, length-append, length-drop, length-replicate, get_or-replicate, get_or-append}
-use lib.Seq.{ext_get_or, get_or-append_seam, get_or-append-add, get_or-take, get_or-drop, length-take-le, take_all}
-use Rattle.filters.specs.Row.{Six, tab, mean_of, means_of, six_at, sixes}
+use lib.ListN.{length, get_or, take, drop, length-append, length-drop, get_or-append}
+use lib.Seq.{ext_get_or, get_or-append_seam, get_or-append-add, get_or-take, get_or-drop, length-take-le}
+use Rattle.filters.specs.Row.{tab, mean_of, means_of}
 use Rattle.filters.specs.Inner.{laid}
 use Rattle.filters.proofs.Tests.{below_or}
 
@@ -33,10 +33,6 @@ is_tab l f n e at = ext_get_or 0 l (tab f n) (e ∙ sym (tab_length f n)) (λ i 
 pub tab_ext : (f g : ℕ → ℕ) (n : ℕ) → ((i : ℕ) → i < n → f i ≡ g i) → tab f n ≡ tab g n
 tab_ext f g n e = is_tab (tab f n) g n (tab_length f n) (λ i h. tab_at f n i h ∙ e i h)
 
-pub sixes_ext : (k l : Six) (n : ℕ) (m2 m1 c0 p1 p2 p3 : List ℕ) → ((a b c d e f : ℕ) → k a b c d e f ≡ l a b c d e f) → sixes k n m2 m1 c0 p1 p2 p3 ≡ sixes l n m2 m1 c0 p1 p2 p3
-unfolding sixes
-sixes_ext k l n m2 m1 c0 p1 p2 p3 same = tab_ext (six_at k m2 m1 c0 p1 p2 p3) (six_at l m2 m1 c0 p1 p2 p3) n (λ i h. same (get_or m2 i 0) (get_or m1 i 0) (get_or c0 i 0) (get_or p1 i 0) (get_or p2 i 0) (get_or p3 i 0))
-
 pub take_tab : (n : ℕ) (l : List ℕ) → n ≤ length l → take n l ≡ tab (λ i. get_or l i 0) n
 take_tab n l le = is_tab (take n l) (λ i. get_or l i 0) n (length-take-le n l le) (λ i h. get_or-take n l i 0 h)
 
@@ -48,23 +44,10 @@ pub means_from : (w at : ℕ) (a b : List ℕ) → means_of w (drop at a) (drop 
 unfolding means_of
 means_from w at a b = tab_ext (λ j. mean_of (get_or (drop at a) j 0) (get_or (drop at b) j 0)) (λ j. mean_of (get_or a (at + j) 0) (get_or b (at + j) 0)) w (λ j lt. rw (get_or-drop at a j 0, get_or-drop at b j 0) refl)
 
-pub zeros_tab : (n : ℕ) → replicate n 0 ≡ tab (λ i. 0) n
-zeros_tab n = is_tab (replicate n 0) (λ i. 0) n (length-replicate n 0) (λ i h. get_or-replicate n i 0 0 h)
-
-pub from_place : {n : ℕ} (t : ℕ) (s : List ℕ) {x : List ℕ} → t + n ≤ length s → x ≡ drop t s → n ≤ length x
-from_place t s fits e = rw (e, length-drop t s) (omega arith)
-
 pub part_length : (l : List ℕ) (a e : ℕ) → a ≤ e → e ≤ length l → length (take (e - a) (drop a l)) ≡ e - a
 part_length l a e ordered fits = length-take-le (e - a) (drop a l) (omega (arith, length-drop a l))
 
 -- ---- a part that was lent and came back
--- a block laid whole into the part that was lent for it
-pub laid_whole : (o l k : List ℕ) (at w : ℕ) → at + w ≤ length o → length l ≡ w → k ≡ take (length (take (at + w - at) (drop at o))) l → laid o at (at + w - at) k ≡ laid o at w l
-laid_whole o l k at w fits long made =
-    let width : at + w - at ≡ w = omega arith in
-    let whole : k ≡ l = made ∙ take_all (length (take (at + w - at) (drop at o))) l (omega (arith, part_length o at (at + w) (omega arith) fits)) in
-    rw (whole, width) refl
-
 module _ (o k : List ℕ) (a e : ℕ) (ordered : a ≤ e) (fits : e ≤ length o) (whole : length k ≡ e - a) where
   abbrev back : List ℕ
   back = laid o a (e - a) k

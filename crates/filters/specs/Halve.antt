@@ -1,20 +1,18 @@
 -- Document 01, "Halving": which filter, its weights and edges, a row from six rows, and a row of pairs halved.
-use Rattle.std.specs.Prelude.{ℕ, ◌+◌, ◌*◌, ◌/◌, Bool, true, false, cond, ◌&&◌, ◌||◌, List, leb, eqb, get_or, set, ℤ, pos, negsuc}
+use Rattle.std.specs.Prelude.{ℕ, ◌+◌, ◌*◌, ◌/◌, Bool, true, false, cond, ◌&&◌, ◌||◌, List, leb, eqb, get_or, set, ℤ, pos, negsuc, Option, Some, None}
 use Rattle.filters.specs.declared.halving.ReduceFilter.{ReduceFilter}
 use Rattle.filters.specs.declared.halving.ReduceFilter.TheVariants.{Average, Bilinear, Quadratic, Cubic}
-use Rattle.filters.specs.declared.halving.Chosen.{Chosen}
-use Rattle.filters.specs.declared.halving.Chosen.TheVariants.{Filter, NoFilter}
 use Rattle.filters.specs.Row.{Six, tab, mean_of, around}
 
 -- "down 0 or 1 (average), 2 (bilinear), 3 (quadratic), 4 (cubic); any other value leaves later levels unwritten"
-abbrev pub chosen_nat : ℕ → Chosen
+abbrev pub chosen_nat : ℕ → Option ReduceFilter
 chosen_nat d =
-    cond (leb d 1) (Filter Average)
-    (cond (eqb d 2) (Filter Bilinear) (cond (eqb d 3) (Filter Quadratic) (cond (eqb d 4) (Filter Cubic) NoFilter)))
+    cond (leb d 1) (Some Average)
+    (cond (eqb d 2) (Some Bilinear) (cond (eqb d 3) (Some Quadratic) (cond (eqb d 4) (Some Cubic) None)))
 
-unfoldable pub chosen : ℤ → Chosen
+unfoldable pub chosen : ℤ → Option ReduceFilter
 chosen (pos d) = chosen_nat d
-chosen (negsuc d) = NoFilter
+chosen (negsuc d) = None
 
 -- "average (m1 + 2c0 + p1 + 2) >> 2; bilinear (m1 + 3(c0 + p1) + p2 + 4) >> 3; quadratic (m2 + 9(m1 + p2) + 22(c0 + p1) + p3 + 32) >> 6; cubic (m2 + 5(m1 + p2) + 10(c0 + p1) + p3 + 16) >> 5"
 abbrev pub weigh : ReduceFilter → Six

@@ -14,7 +14,7 @@ pub enum HalfPel {
     Wiener,
 }
 
-// What an up setting names: means of neighbours (document 01's bilinear), or a kernel.
+// What an up setting names: means of neighbours (document 01's bilinear), or a kernel. No Option: means are a filter too, where None would say that there is none.
 #[derive(Clone, Copy)]
 pub enum Upscale {
     Means,
@@ -38,9 +38,9 @@ impl CatmullRom {
     fn apply(m1: u8, c0: u8, p1: u8, p2: u8) -> u8
         ensures { result ≡ natural_pel HalfPel.CatmullRom 0 m1 c0 p1 p2 0 }
     {
-        let plus = 9 * ((c0 as u16) + (p1 as u16)) + CatmullRom::ROUND;
+        let plus = 9 * ((c0 as u16) + (p1 as u16)) + Self::ROUND;
         let minus = (m1 as u16) + (p2 as u16);
-        held(excess(plus, minus) >> 4)
+        held(plus.saturating_sub(minus) >> 4)
     }
 }
 
@@ -54,32 +54,21 @@ impl Wiener {
     fn apply(m2: u8, m1: u8, c0: u8, p1: u8, p2: u8, p3: u8) -> u8
         ensures { result ≡ natural_pel HalfPel.Wiener m2 m1 c0 p1 p2 p3 }
     {
-        let plus = (m2 as u16) + 20 * ((c0 as u16) + (p1 as u16)) + (p3 as u16) + Wiener::ROUND;
+        let plus = (m2 as u16) + 20 * ((c0 as u16) + (p1 as u16)) + (p3 as u16) + Self::ROUND;
         let minus = 5 * ((m1 as u16) + (p2 as u16));
-        held(excess(plus, minus) >> 5)
+        held(plus.saturating_sub(minus) >> 5)
     }
 }
 
-// By how much plus exceeds minus; 0 where minus is larger, as a result is held to 0..255.
-fn excess(plus: u16, minus: u16) -> u16
-    ensures { result ≡ plus - minus }
-{
-    if plus < minus {
-        return 0;
-    }
-    plus - minus
-}
-
+// To 255. A difference below 0 is 0 already, by `saturating_sub`: so a result is held to 0..255.
 fn held(v: u16) -> u8
     ensures { result ≡ min 255 v }
 {
-    if v > 255 {
-        return 255;
-    }
-    v as u8
+    v.min(255) as u8
 }
 
 impl HalfPel {
+    #[tactic(auto, using(crate::proofs::Chosen::wiener_chosen), unfolding(crate::specs::Refine::upscale))]
     pub fn from_option(value: i32) -> Upscale
         ensures { result ≡ upscale value }
     {
@@ -118,6 +107,7 @@ impl HalfPel {
     }
 
     // The kernel at each place of six rows.
+    #[tactic(auto, using(crate::proofs::Filling::filled_whole), unfolding(crate::specs::Row::sixes))]
     fn apply_half_pel(
         self,
         out: &mut [u8],
@@ -131,13 +121,13 @@ impl HalfPel {
         requires { Reach (length out.old) m2.now m1.now c0.now p1.now p2.now p3.now }
         ensures { out.new ≡ sixes (half_pel self) (length out.old) m2.now m1.now c0.now p1.now p2.now p3.now }
     {
-        let n = out.len();
-        for i in 0..n {
-            out[i] = self.apply(m2[i], m1[i], c0[i], p1[i], p2[i], p3[i]);
+        for (i, o) in out.iter_mut().enumerate() {
+            *o = self.apply(m2[i], m1[i], c0[i], p1[i], p2[i], p3[i]);
         }
     }
 
     // Row y of h, from the rows around it. A row that its place doesn't read may be any that is long enough.
+    #[tactic(auto, using(crate::proofs::Places::vertical_copy, crate::proofs::Places::vertical_mean, crate::proofs::Places::vertical_kernel, crate::proofs::Tests::near_end))]
     pub fn vertical(
         self,
         out: &mut [u8],
@@ -166,6 +156,7 @@ impl HalfPel {
     }
 
     // A row of half samples: means and the copied place first, then the kernel over the places between.
+    #[tactic(auto, using(crate::proofs::Places::short_row, crate::proofs::Places::long_row))]
     pub fn horizontal(self, out: &mut [u8], row: &[u8])
         requires { length out.old ≤ length row.now }
         ensures { out.new ≡ half_horizontal self (length out.old) row.now }
@@ -192,6 +183,7 @@ impl HalfPel {
 }
 
 // Each place the mean with the next, and the last a copy.
+#[tactic(auto, using(crate::proofs::Filling::filled_whole, crate::proofs::Filling::filled_none, crate::proofs::Places::next_made), unfolding(crate::specs::Inner::next_means))]
 fn mean_with_next(out: &mut [u8], row: &[u8])
     requires { length out.old ≤ length row.now }
     ensures { out.new ≡ next_means (length out.old) row.now }

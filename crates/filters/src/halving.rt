@@ -15,13 +15,6 @@ pub enum ReduceFilter {
     Cubic,
 }
 
-// The filter that a down setting names.
-#[derive(Clone, Copy)]
-pub enum Chosen {
-    Filter(ReduceFilter),
-    NoFilter,
-}
-
 // A filter's constants: the first row that it reads, counted up from the source row, and the last, counted down; whether the last output is a mean; and the rounding term.
 // `weigh` shifts in two steps, which takes fewer instructions on vectors: what counts 2, 4 or 8 times is added once, after the rest is shifted by 1, 2 or 3. The bits that the rest loses can't reach the result.
 #[derive(Clone, Copy)]
@@ -49,7 +42,7 @@ impl Average {
         requires { Low 0 m1 c0 p1 0 0 }
         ensures { result ≡ weigh ReduceFilter.Average 0 m1 c0 p1 0 0 }
     {
-        ((((m1 + p1) >> 1) + c0 + Average::ROUND / 2) >> 1) as u8
+        ((((m1 + p1) >> 1) + c0 + Self::ROUND / 2) >> 1) as u8
     }
 }
 
@@ -67,7 +60,7 @@ impl Bilinear {
         ensures { result ≡ weigh ReduceFilter.Bilinear 0 m1 c0 p1 p2 0 }
     {
         let inner = c0 + p1;
-        ((((m1 + p2 + inner + Bilinear::ROUND) >> 1) + inner) >> 2) as u8
+        ((((m1 + p2 + inner + Self::ROUND) >> 1) + inner) >> 2) as u8
     }
 }
 
@@ -85,7 +78,7 @@ impl Quadratic {
         ensures { result ≡ weigh ReduceFilter.Quadratic m2 m1 c0 p1 p2 p3 }
     {
         let outer = m1 + p2;
-        ((((m2 + p3 + outer + 22 * (c0 + p1) + Quadratic::ROUND) >> 3) + outer) >> 3) as u8
+        ((((m2 + p3 + outer + 22 * (c0 + p1) + Self::ROUND) >> 3) + outer) >> 3) as u8
     }
 }
 
@@ -103,21 +96,22 @@ impl Cubic {
         ensures { result ≡ weigh ReduceFilter.Cubic m2 m1 c0 p1 p2 p3 }
     {
         let inner = m1 + p2 + 2 * (c0 + p1);
-        ((((m2 + p3 + inner + Cubic::ROUND) >> 2) + inner) >> 3) as u8
+        ((((m2 + p3 + inner + Self::ROUND) >> 2) + inner) >> 3) as u8
     }
 }
 
 impl ReduceFilter {
-    pub fn from_option(value: i32) -> Chosen
+    // The filter that a down setting names.
+    #[tactic(auto, using(crate::proofs::Chosen::none_chosen), unfolding(crate::specs::Halve::chosen))]
+    pub fn from_option(value: i32) -> Option<ReduceFilter>
         ensures { result ≡ chosen value }
     {
         match value {
-            0 => Chosen::Filter(ReduceFilter::Average),
-            1 => Chosen::Filter(ReduceFilter::Average),
-            2 => Chosen::Filter(ReduceFilter::Bilinear),
-            3 => Chosen::Filter(ReduceFilter::Quadratic),
-            4 => Chosen::Filter(ReduceFilter::Cubic),
-            _ => Chosen::NoFilter,
+            0 | 1 => Some(ReduceFilter::Average),
+            2 => Some(ReduceFilter::Bilinear),
+            3 => Some(ReduceFilter::Quadratic),
+            4 => Some(ReduceFilter::Cubic),
+            _ => None,
         }
     }
 
@@ -187,6 +181,7 @@ impl ReduceFilter {
 
     // One target row that is no edge, from the rows around the source row. A row that the filter doesn't read may be any that is long enough.
     // The bytes are read from the outer rows inward: of rows read in their own order, evenly apart, the compiler would make each address from the one before, at an instruction each.
+    #[tactic(auto, using(crate::proofs::Filling::filled_whole), unfolding(crate::specs::Row::sixes))]
     pub fn vertical_filter(
         self,
         out: &mut [u8],
@@ -200,9 +195,8 @@ impl ReduceFilter {
         requires { Reach (length out.old) m2.now m1.now c0.now p1.now p2.now p3.now }
         ensures { out.new ≡ sixes (weigh self) (length out.old) m2.now m1.now c0.now p1.now p2.now p3.now }
     {
-        let n = out.len();
-        for i in 0..n {
-            out[i] = self.weigh_bytes(m2[i], p3[i], m1[i], p2[i], c0[i], p1[i]);
+        for (i, o) in out.iter_mut().enumerate() {
+            *o = self.weigh_bytes(m2[i], p3[i], m1[i], p2[i], c0[i], p1[i]);
         }
     }
 
@@ -235,6 +229,7 @@ impl ReduceFilter {
     }
 
     // A row of pairs, halved, from what `deinterleave` made of it. The weights run over the edges too, which are written again: without those a loop would leave the most places past whole vectors. The first place is stored last, since it may be the last place too.
+    #[tactic(auto, using(crate::proofs::Pairs::reduced))]
     pub fn reduce_row(self, out: &mut [u8], split: &[u8])
         requires { (0 < length out.old) × (2 * length out.old + 2 ≤ length split.now) }
         ensures { out.new ≡ reduced_apart self (length out.old) split.now }

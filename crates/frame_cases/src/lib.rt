@@ -6,113 +6,98 @@
 // First what is read of a case; then the earlier bytes; then what is answered.
 #![tactic(auto)]
 
-ghost use Rattle.std.specs.Prelude.{◌+◌, ◌*◌, ◌≤◌, ◌<◌, length};
+ghost use Rattle.std.specs.Prelude.{◌≡◌, ◌≤◌, ◌<◌, length, slice_index, IfOk};
+ghost use Rattle.cases.specs.Cases.{bool_at};
 
-use input::read_full;
-use layouts::layout::Layout;
-use settings::numbers::from_bits;
-use settings::refusal::Tested;
-use settings::super_opts::SuperOpts;
+use cases::{End, halves, layout_of, read_whole};
+use settings::refusal::Refusal;
 use std::io;
-use stored::layout::{Laid, level_regions};
+use stored::layout::{LAYOUT, level_regions};
 
-pub fn word(head: &[u8], k: usize) -> u32
-    requires { 4 * k + 4 ≤ length head.now }
+pub fn read_words<R: Input, const N: usize>(rt: &R) -> Result<[u32; N], End>
+    requires { N < 100 }
 {
-    let at = 4 * k;
-    byte(head[at])
-        + 256 * byte(head[at + 1])
-        + 65536 * byte(head[at + 2])
-        + 0x100_0000 * byte(head[at + 3])
+    let mut words = [[0u8; 4]; N];
+    read_whole(rt, words.as_flattened_mut())?;
+    Ok(words.map(u32::from_le_bytes))
 }
 
-fn byte(b: u8) -> u32
-    ensures { result < 256 }
+pub fn laid_of(words: &[u32]) -> Result<[usize; LAYOUT], Refusal>
+    requires { 14 ≤ length words.now }
 {
-    b as u32
+    level_regions(layout_of(words))
 }
 
-// A number of two words, the high one first.
-pub fn long(head: &[u8], k: usize) -> usize
-    requires { 4 * k + 8 ≤ length head.now }
-{
-    word(head, k) as usize * 0x1_0000_0000 + word(head, k + 1) as usize
+// What a case that builds says but for the source.
+#[derive(Clone, Copy)]
+pub struct Asked {
+    pub frame: usize,
+    pub spill: usize,
+    pub scratch: usize,
+    pub whole: bool,
+    pub made: bool,
+    pub seed: u32,
 }
 
-fn int(head: &[u8], k: usize) -> i32
-    requires { 4 * k + 4 ≤ length head.now }
-{
-    from_bits(word(head, k))
-}
-
-pub fn record_of(head: &[u8]) -> SuperOpts
-    requires { 40 ≤ length head.now }
-{
-    SuperOpts {
-        pel: int(head, 0),
-        gpu: int(head, 1),
-        scale_down: int(head, 2),
-        scale_up: int(head, 3),
-        full: word(head, 4) != 0,
-        rc: word(head, 5) != 0,
-        lean: word(head, 6) != 0,
-        levels: int(head, 7),
-        width: int(head, 8),
-        height: int(head, 9),
-    }
-}
-
-pub fn laid_of(head: &[u8]) -> Laid
-    requires { 56 ≤ length head.now }
-{
-    level_regions(Layout {
-        opts: record_of(head),
-        x_shift: word(head, 10),
-        y_shift: word(head, 11),
-        pitch: long(head, 12),
-    })
-}
-
-// The number of a call by that layout. Where none was made the call was handed zeros, which it refuses, and the number is making's.
-pub fn after_making(laid: Laid, call: Tested) -> Tested {
-    let made = laid.tested;
-    match made {
-        Tested::Fine => call,
-        Tested::Refused(f) => Tested::Refused(f),
-    }
-}
-
-pub fn read_whole<R: Input>(rt: &R, bytes: &mut [u8]) -> io::Result<bool> {
-    Ok(read_full(rt, bytes)? >= bytes.len())
-}
-
-// A case that a program's arrays can't hold: said, and nothing more is answered, so that the comparison fails.
-pub fn too_long<R: Eprint>(rt: &R) -> io::Result<bool> {
-    eprintln!(rt; "replay: a case is too long")?;
-    Ok(false)
-}
-
-pub fn earlier<R: Input>(
-    rt: &R,
-    frame: &mut [u8],
-    spill: &mut [u8],
-    scratch: &mut [u8],
-    made: bool,
-    seed: u32,
-) -> io::Result<bool> {
-    if !made {
-        if !read_whole(rt, frame)? {
-            return Ok(false);
+impl Asked {
+    pub fn of(words: &[u32]) -> Asked
+        requires { 6 ≤ length words.now }
+        ensures lengths { (result.frame ≡ slice_index words.now 0) × (result.spill ≡ slice_index words.now 1) × (result.scratch ≡ slice_index words.now 2) }
+        ensures wanted { (result.whole ≡ bool_at words.now 3) × (result.made ≡ bool_at words.now 4) × (result.seed ≡ slice_index words.now 5) }
+    {
+        Asked {
+            frame: words[0] as usize,
+            spill: words[1] as usize,
+            scratch: words[2] as usize,
+            whole: words[3] != 0,
+            made: words[4] != 0,
+            seed: words[5],
         }
-        if !read_whole(rt, spill)? {
-            return Ok(false);
-        }
-        return read_whole(rt, scratch);
     }
-    let after_frame = make(frame, seed as u64 % 0x7fff_ffff);
-    let after_spill = make(spill, after_frame);
-    make(scratch, after_spill);
-    Ok(true)
+}
+
+// What a build is lent but for the source.
+#[derive(Drop)]
+pub struct Lent<'a> {
+    pub frame: &'a mut [u8],
+    pub spill: &'a mut [u8],
+    pub scratch: &'a mut [u8],
+}
+
+impl<'a> Lent<'a> {
+    // Of what a program has, as much as a case asks for.
+    pub fn of(
+        asked: Asked,
+        frame: &'a mut [u8],
+        spill: &'a mut [u8],
+        scratch: &'a mut [u8],
+    ) -> Result<Lent<'a>, End>
+        ensures { IfOk result (λ l. (length l.frame.now ≡ asked.frame) × (length l.spill.now ≡ asked.spill) × (length l.scratch.now ≡ asked.scratch)) }
+    {
+        Ok(Lent {
+            frame: part(frame, asked.frame)?,
+            spill: part(spill, asked.spill)?,
+            scratch: part(scratch, asked.scratch)?,
+        })
+    }
+
+    pub fn earlier<R: Input>(&mut self, rt: &R, asked: Asked) -> Result<(), End> {
+        if !asked.made {
+            read_whole(rt, self.frame)?;
+            read_whole(rt, self.spill)?;
+            return read_whole(rt, self.scratch);
+        }
+        let after_frame = make(self.frame, u64::from(asked.seed) % 0x7fff_ffff);
+        let after_spill = make(self.spill, after_frame);
+        make(self.scratch, after_spill);
+        Ok(())
+    }
+}
+
+pub fn part(bytes: &mut [u8], len: usize) -> Result<&mut [u8], End>
+    ensures { IfOk result (λ p. length p.now ≡ len) }
+{
+    bytes.get_mut(..len).ok_or(End::TooLong)
 }
 
 fn make(bytes: &mut [u8], seed: u64) -> u64
@@ -120,69 +105,47 @@ fn make(bytes: &mut [u8], seed: u64) -> u64
     ensures { result < 2147483647 }
 {
     let mut x = seed;
-    for i in 0..bytes.len() {
+    for b in bytes.iter_mut() {
         x = x * 48_271 % 0x7fff_ffff;
-        bytes[i] = (x / 0x80_0000) as u8;
+        *b = (x / 0x80_0000) as u8;
     }
     x
 }
 
-pub fn put_tested<R: Print>(rt: &R, t: Tested) -> io::Result<()> {
-    put_number(
-        rt,
-        match t {
-            Tested::Fine => 0,
-            Tested::Refused(f) => f.number(),
-        },
-    )
+pub fn put_tested<R: Print>(rt: &R, t: Result<(), Refusal>) -> io::Result<()> {
+    put_number(rt, t.map_or_else(|f| f.number(), |()| 0))
 }
 
 pub fn put_number<R: Print>(rt: &R, n: u32) -> io::Result<()> {
-    let bytes = [
-        (n % 256) as u8,
-        (n / 256 % 256) as u8,
-        (n / 65536 % 256) as u8,
-        (n / 0x100_0000) as u8,
-    ];
-    rt.write_all(&bytes)
+    rt.write_all(&n.to_le_bytes())
 }
 
 // A number of two words, the high one first.
 pub fn put_long<R: Print>(rt: &R, n: usize) -> io::Result<()> {
-    put_number(rt, (n / 0x1_0000_0000) as u32)?;
-    put_number(rt, (n % 0x1_0000_0000) as u32)
+    let [high, low] = halves(n as u64);
+    put_number(rt, high)?;
+    put_number(rt, low)
 }
 
-pub fn put_bytes<R: Print>(
-    rt: &R,
-    frame: &[u8],
-    spill: &[u8],
-    scratch: &[u8],
-    whole: bool,
-) -> io::Result<()> {
-    put_sums(rt, frame)?;
-    put_sums(rt, spill)?;
-    put_sums(rt, scratch)?;
-    if !whole {
-        return Ok(());
+impl Lent<'_> {
+    pub fn put<R: Print>(&self, rt: &R, asked: Asked) -> io::Result<()> {
+        put_sums(rt, self.frame)?;
+        put_sums(rt, self.spill)?;
+        put_sums(rt, self.scratch)?;
+        if !asked.whole {
+            return Ok(());
+        }
+        rt.write_all(self.frame)
     }
-    rt.write_all(frame)
 }
 
 fn put_sums<R: Print>(rt: &R, bytes: &[u8]) -> io::Result<()> {
     let mut a: u64 = 1;
     let mut b: u64 = 1;
-    for i in 0..bytes.len() {
-        let x = wide(bytes[i]);
-        a = (a * 1_000_003 + x) % 4_294_967_291;
-        b = (b * 998_244_353 + x) % 4_294_967_291;
+    for x in bytes {
+        a = (a * 1_000_003 + u64::from(*x)) % 4_294_967_291;
+        b = (b * 998_244_353 + u64::from(*x)) % 4_294_967_291;
     }
     put_number(rt, a as u32)?;
     put_number(rt, b as u32)
-}
-
-fn wide(b: u8) -> u64
-    ensures { result < 256 }
-{
-    b as u64
 }

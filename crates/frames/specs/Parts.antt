@@ -1,10 +1,11 @@
 -- Document 02, order 3: the planes of a frame, Y, U and V, by the numbers 0, 1 and 2, and where they lie.
 -- First a plane's layout and its part of the frame; then the numbers that come before any byte is asked for; then where the parts lie; last a row of one.
-use Rattle.std.specs.Prelude.{ℕ, zero, suc, ◌+◌, ◌/◌, not, ◌||◌, List, leb, ltb, length, take, drop}
+use Rattle.std.specs.Prelude.{ℕ, zero, suc, ◌+◌, ◌/◌, not, ◌||◌, List, leb, ltb, length, take, drop, Result}
+use Rattle.settings.specs.declared.refusal.Refusal.{Refusal}
 use Rattle.settings.specs.declared.super_opts.SuperOpts.{SuperOpts}
 use Rattle.settings.specs.Numbers.{refuse, ◌then◌, total}
 use Rattle.settings.specs.Check.{luma_w, luma_h, record_no}
-use Rattle.settings.specs.Answers.{Answer, answer, if_done, number}
+use Rattle.settings.specs.Answers.{Answer, if_done, outcome}
 use Rattle.layouts.specs.declared.layout.Layout.{Layout}
 use Rattle.layouts.specs.declared.rows.Run.{Run}
 use Rattle.layouts.specs.Layout.{width_at, row_start, written_end}
@@ -12,8 +13,6 @@ use Rattle.layouts.specs.Refusals.{no_row}
 use Rattle.layouts.specs.Answers.{needs_of, no_needs, no_run}
 use Rattle.frames.specs.declared.parts.Part.{Part}
 use Rattle.frames.specs.declared.parts.Parts.{Parts}
-use Rattle.frames.specs.declared.parts.Parted.{Parted}
-use Rattle.frames.specs.declared.parts.Parted.TheVariants.{Parts as Told, Refused}
 
 -- "shifts 1,1 for chroma, pitch W for Y and W / 2 for U and V"
 abbrev pub plane_of : SuperOpts → ℕ → Layout
@@ -53,9 +52,8 @@ no_parts = record { y = no_part; u = no_part; v = no_part; length = 0; needs = n
 abbrev pub parts_answer : SuperOpts → Answer Parts
 parts_answer r = if_done (planes_no r) (parts_of r) no_parts
 
-abbrev pub parted : Parted → Answer Parts
-parted (Told p) = answer 0 p
-parted (Refused f) = answer (number f) no_parts
+abbrev pub parted : Result Parts Refusal → Answer Parts
+parted = outcome no_parts
 
 -- ---- row y of plane j of level l of part k, in a frame of len bytes: document 01's row of the part, and its numbers, but for 11, which goes by the joined ends
 abbrev pub part_no : SuperOpts → ℕ → ℕ → ℕ

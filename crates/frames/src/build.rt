@@ -14,7 +14,7 @@ use filters::rows::zero_row;
 use layouts::lent::source_need;
 use layouts::levels::{bad_pitch, width};
 use planes::build::build_spilled;
-use settings::refusal::{BadLent, Refusal, Tested};
+use settings::refusal::{BadLent, Refusal, refuse_if};
 use settings::super_opts::SuperOpts;
 
 fn bad_source_pitch(opts: SuperOpts, part: u32, pitch: usize) -> bool
@@ -31,6 +31,7 @@ fn short_source(opts: SuperOpts, part: u32, len: usize, pitch: usize) -> bool
 }
 
 // Refusals 10 to 13. Only accepted pitches have needs that fit.
+#[tactic(auto, unfolding(crate::specs::Build::lent_frame_no))]
 fn lent_tested(
     opts: SuperOpts,
     y: usize,
@@ -42,7 +43,7 @@ fn lent_tested(
     frame: usize,
     spill: usize,
     scratch: usize,
-) -> Tested
+) -> Result<(), Refusal>
     requires { (planes_no opts ≡ 0) × (y_pitch ≤ most_pitch) × (u_pitch ≤ most_pitch) × (v_pitch ≤ most_pitch) }
     ensures { tested result ≡ lent_frame_no opts (three y u v) (three y_pitch u_pitch v_pitch) frame spill scratch }
 {
@@ -51,11 +52,11 @@ fn lent_tested(
         | short_source(opts, 2, v, v_pitch);
     let parts = parts_of(opts);
     let needs = parts.needs;
-    Tested::Fine
-        .then_refuse(source, Refusal::Lent(BadLent::Source))
-        .then_refuse(frame < parts.length, Refusal::Lent(BadLent::Frame))
-        .then_refuse(spill < needs.spill, Refusal::Lent(BadLent::Spill))
-        .then_refuse(scratch < needs.scratch, Refusal::Lent(BadLent::Scratch))
+    refuse_if(source, BadLent::Source)?;
+    refuse_if(frame < parts.length, BadLent::Frame)?;
+    refuse_if(spill < needs.spill, BadLent::Spill)?;
+    refuse_if(scratch < needs.scratch, BadLent::Scratch)?;
+    Ok(())
 }
 
 fn build_tested(
@@ -69,18 +70,15 @@ fn build_tested(
     frame: usize,
     spill: usize,
     scratch: usize,
-) -> Tested
+) -> Result<(), Refusal>
     ensures { tested result ≡ build_frame_no opts (three y u v) (three y_pitch u_pitch v_pitch) frame spill scratch }
 {
-    let t = planes_tested(opts);
-    let Tested::Fine = t else {
-        return t;
-    };
+    planes_tested(opts)?;
     let bad = bad_source_pitch(opts, 0, y_pitch)
         | bad_source_pitch(opts, 1, u_pitch)
         | bad_source_pitch(opts, 2, v_pitch);
     if bad {
-        return Tested::Refused(Refusal::Lent(BadLent::SourcePitch));
+        return Err(Refusal::Lent(BadLent::SourcePitch));
     }
     lent_tested(
         opts, y, y_pitch, u, u_pitch, v, v_pitch, frame, spill, scratch,
@@ -147,10 +145,10 @@ pub fn build_frame(
     u_pitch: usize,
     v: &[u8],
     v_pitch: usize,
-) -> Tested
+) -> Result<(), Refusal>
     ensures { FrameLeaves opts (three y.now u.now v.now) (three y_pitch u_pitch v_pitch) frame.old spill.old scratch.old (tested result) frame.new spill.new scratch.new }
 {
-    let t = build_tested(
+    build_tested(
         opts,
         y.len(),
         y_pitch,
@@ -161,14 +159,11 @@ pub fn build_frame(
         frame.len(),
         spill.len(),
         scratch.len(),
-    );
-    let Tested::Fine = t else {
-        return t;
-    };
+    )?;
     build_parts(
         frame, spill, scratch, opts, y, y_pitch, u, u_pitch, v, v_pitch,
     );
     zero_row(spill);
     zero_row(scratch);
-    Tested::Fine
+    Ok(())
 }

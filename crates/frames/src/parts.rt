@@ -9,8 +9,8 @@ ghost use Rattle.frames.specs.Parts.{plane_of, length_of, planes_no, part_of, pa
 use layouts::layout::{Layout, Needs};
 use layouts::lent::{scratch_need, spill_need};
 use layouts::levels::offset;
-use layouts::rows::{Placed, Run, hand_out, row_in};
-use settings::refusal::{BadLent, BadPlanes, Refusal, Tested};
+use layouts::rows::{Run, hand_out, row_in};
+use settings::refusal::{BadLent, BadPlanes, Refusal, refuse_if};
 use settings::super_opts::SuperOpts;
 
 // The part of a frame that is a plane's.
@@ -31,18 +31,11 @@ pub struct Parts {
     pub needs: Needs,
 }
 
-#[derive(Clone, Copy)]
-pub enum Parted {
-    Parts(Parts),
-    Refused(Refusal),
-}
-
 // U and V have half the picture's sides: the pitches and shifts of `SuperFrame::view`.
 pub(crate) fn plane_of(opts: SuperOpts, part: u32) -> Layout
     ensures { result ≡ plane_of opts part }
 {
-    let n = opts.naturals();
-    let w = n.width as usize;
+    let w = opts.naturals().width as usize;
     if part == 0 {
         return Layout {
             opts,
@@ -63,23 +56,19 @@ fn part_length(opts: SuperOpts, part: u32) -> usize
     requires { planes_no opts ≡ 0 }
     ensures { result ≡ length_of opts part }
 {
-    let n = opts.naturals();
-    offset(plane_of(opts, part), n.levels)
+    offset(plane_of(opts, part), opts.naturals().levels)
 }
 
 // Refusals 6, 23 and 24.
-pub(crate) fn planes_tested(opts: SuperOpts) -> Tested
+#[tactic(auto, unfolding(crate::specs::Parts::planes_no))]
+pub(crate) fn planes_tested(opts: SuperOpts) -> Result<(), Refusal>
     ensures { tested result ≡ planes_no opts }
 {
-    let record = opts.accepted();
+    refuse_if(!opts.accepted(), Refusal::NoRecord)?;
     let n = opts.naturals();
-    Tested::Fine
-        .then_refuse(!record, Refusal::NoRecord)
-        .then_refuse(
-            (n.width < 2) | (n.height < 2),
-            Refusal::Planes(BadPlanes::Side),
-        )
-        .then_refuse(!opts.full, Refusal::Planes(BadPlanes::Full))
+    refuse_if((n.width < 2) | (n.height < 2), BadPlanes::Side)?;
+    refuse_if(!opts.full, BadPlanes::Full)?;
+    Ok(())
 }
 
 // Two walks down the levels tell it all: V is as long as U.
@@ -130,35 +119,38 @@ pub(crate) fn part_of(opts: SuperOpts, parts: Parts, part: u32) -> Part
 }
 
 // Where the planes lie, and what a build of all three needs. Refusals 6, 23, 24.
-pub fn frame_parts(opts: SuperOpts) -> Parted
+pub fn frame_parts(opts: SuperOpts) -> Result<Parts, Refusal>
     ensures { parted result ≡ parts_answer opts }
 {
-    match planes_tested(opts) {
-        Tested::Fine => Parted::Parts(parts_of(opts)),
-        Tested::Refused(f) => Parted::Refused(f),
-    }
+    planes_tested(opts)?;
+    Ok(parts_of(opts))
 }
 
 // Of a record that has a frame: the row in its part, and the part in the frame. Refusals 11 and 19.
-fn place_in(opts: SuperOpts, len: usize, part: u32, level: u32, plane: usize, y: usize) -> Placed
+fn place_in(
+    opts: SuperOpts,
+    len: usize,
+    part: u32,
+    level: u32,
+    plane: usize,
+    y: usize,
+) -> Result<Run, Refusal>
     requires { planes_no opts ≡ 0 }
     ensures { placed result ≡ place_in_answer opts len part level plane y }
 {
     let parts = parts_of(opts);
     if len < parts.length {
-        return Placed::Refused(Refusal::Lent(BadLent::Frame));
+        return Err(Refusal::Lent(BadLent::Frame));
     }
     if part > 2 {
-        return Placed::Refused(Refusal::NoRow);
+        return Err(Refusal::NoRow);
     }
     let own = part_of(opts, parts, part);
-    match row_in(plane_of(opts, part), level, plane, y) {
-        Placed::At(run) => Placed::At(Run {
-            offset: own.start + run.offset,
-            length: run.length,
-        }),
-        Placed::Refused(f) => Placed::Refused(f),
-    }
+    let run = row_in(plane_of(opts, part), level, plane, y)?;
+    Ok(Run {
+        offset: own.start + run.offset,
+        length: run.length,
+    })
 }
 
 // Where row y of a plane of a level of a part lies, in a frame of len bytes. Refusals 6, 23, 24, 11, 19.
@@ -169,13 +161,11 @@ pub fn frame_row_place(
     level: u32,
     plane: usize,
     y: usize,
-) -> Placed
+) -> Result<Run, Refusal>
     ensures { placed result ≡ place_in_answer opts len part level plane y }
 {
-    match planes_tested(opts) {
-        Tested::Fine => place_in(opts, len, part, level, plane, y),
-        Tested::Refused(f) => Placed::Refused(f),
-    }
+    planes_tested(opts)?;
+    place_in(opts, len, part, level, plane, y)
 }
 
 // That row: a part of the frame, empty when refused.

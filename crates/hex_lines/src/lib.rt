@@ -1,63 +1,49 @@
-// Lines of hexadecimal words, which the replays read and write: word k is the 8 digits from byte 9 * k, an integer as two's complement.
+// Lines of hexadecimal words, which the replays read and write: each word is 8 digits, an integer as two's complement, and a space or the line's end.
 #![tactic(auto)]
 
-ghost use Rattle.std.specs.Prelude.{length, ◌+◌, ◌*◌, ◌≤◌, ◌<◌};
+ghost use Rattle.std.specs.Prelude.{◌<◌};
 
-use settings::numbers::{from_bits, to_bits};
+use cases::{End, read_whole};
+use std::io;
 
 const DIGITS: [u8; 16] = *b"0123456789abcdef";
 
-// The value of a digit; of any other byte some value below 16.
-fn digit(b: u8) -> u32
-    ensures { result < 16 }
+pub fn read_line<R: Input, const N: usize>(rt: &R) -> Result<[u32; N], End>
+    requires { N < 100 }
 {
+    let mut line = [[0u8; 9]; N];
+    read_whole(rt, line.as_flattened_mut())?;
+    Ok(line.map(word))
+}
+
+fn word(place: [u8; 9]) -> u32 {
+    place[..8].iter().fold(0, |v, b| v << 4 | digit(*b))
+}
+
+// The value of a digit; of any other byte some value below 16, which `to_digit` has none for.
+fn digit(b: u8) -> u32 {
     if b < b'a' {
-        return (b % 16) as u32;
+        return u32::from(b % 16);
     }
-    ((b - 87) % 16) as u32
+    u32::from((b - 87) % 16)
 }
 
-pub fn word_at(case: &[u8], k: usize) -> u32
-    requires { (k < 100) × (9 * k + 8 ≤ length case.now) }
+pub fn write_line<R: Print, const N: usize>(rt: &R, words: [u32; N]) -> io::Result<()>
+    requires { N < 100 }
 {
-    let mut v: u32 = 0;
-    for i in 0..8usize {
-        v = v % 0x1000_0000 * 16 + digit(case[9 * k + i]);
+    let mut line = words.map(placed);
+    if let Some(last) = line.last_mut() {
+        last[8] = b'\n';
     }
-    v
+    rt.write_all(line.as_flattened())
 }
 
-pub fn int_at(case: &[u8], k: usize) -> i32
-    requires { (k < 100) × (9 * k + 8 ≤ length case.now) }
-{
-    from_bits(word_at(case, k))
-}
-
-pub fn bool_at(case: &[u8], k: usize) -> bool
-    requires { (k < 100) × (9 * k + 8 ≤ length case.now) }
-{
-    word_at(case, k) != 0
-}
-
-pub fn put_word(out: &mut [u8], k: usize, word: u32)
-    requires { (k < 100) × (9 * k + 8 ≤ length out.old) }
-{
+fn placed(word: u32) -> [u8; 9] {
+    let mut place = [b' '; 9];
     let mut v = word;
-    for i in 0..8usize {
-        let d = (v % 16) as usize;
-        out[9 * k + 7 - i] = DIGITS[d];
+    for digit in place[..8].iter_mut().rev() {
+        *digit = DIGITS[(v % 16) as usize];
         v /= 16;
     }
-}
-
-pub fn put_int(out: &mut [u8], k: usize, z: i32)
-    requires { (k < 100) × (9 * k + 8 ≤ length out.old) }
-{
-    put_word(out, k, to_bits(z));
-}
-
-pub fn put_bool(out: &mut [u8], k: usize, b: bool)
-    requires { (k < 100) × (9 * k + 8 ≤ length out.old) }
-{
-    put_word(out, k, b as u32);
+    place
 }

@@ -6,7 +6,7 @@ ghost use Rattle.std.specs.Prelude.{◌≤◌, length, IfOk};
 use std::io;
 use std::io::Read;
 
-// How many bytes stand at the front; fewer than the slice has only where the input ended. A reader that is made anew has read nothing ahead, and so loses nothing.
+// How many bytes stand at the front; fewer than the slice has only where the input ended. The library's `read_exact` fails there, and tells no count. A reader that is made anew has read nothing ahead, and so loses nothing.
 pub fn read_full<R: Input>(rt: &R, bytes: &mut [u8]) -> io::Result<usize>
     ensures within { IfOk result (λ n. n ≤ length bytes.new) }
 {

@@ -1,11 +1,10 @@
 -- What a call tells of a layout: what a build needs, and where a row lies; and the answer that tells a row.
-use Rattle.std.specs.Prelude.{ℕ}
-use Rattle.settings.specs.Answers.{Answer, answer, number}
+use Rattle.std.specs.Prelude.{ℕ, Result}
+use Rattle.settings.specs.declared.refusal.Refusal.{Refusal}
+use Rattle.settings.specs.Answers.{Answer, outcome}
 use Rattle.layouts.specs.declared.layout.Layout.{Layout}
 use Rattle.layouts.specs.declared.layout.Needs.{Needs}
 use Rattle.layouts.specs.declared.rows.Run.{Run}
-use Rattle.layouts.specs.declared.rows.Placed.{Placed}
-use Rattle.layouts.specs.declared.rows.Placed.TheVariants.{At, Refused}
 use Rattle.layouts.specs.Layout.{width_at, row_start, spill_need, scratch_need}
 
 -- what a build needs beside the frame: the needs of numbers 12 and 13
@@ -22,6 +21,5 @@ run_of q l k y = record { offset = row_start q l k y; length = width_at q l }
 abbrev pub no_run : Run
 no_run = record { offset = 0; length = 0 }
 
-abbrev pub placed : Placed → Answer Run
-placed (At r) = answer 0 r
-placed (Refused f) = answer (number f) no_run
+abbrev pub placed : Result Run Refusal → Answer Run
+placed = outcome no_run

@@ -22,8 +22,7 @@ impl Descent {
     pub fn top(layout: Layout) -> Descent
         ensures { result ≡ reached layout 0 }
     {
-        let opts = layout.opts;
-        let n = opts.naturals();
+        let n = layout.opts.naturals();
         Descent {
             offset: 0,
             width: n.width,

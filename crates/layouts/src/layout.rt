@@ -9,7 +9,7 @@ pub struct Layout {
     pub pitch: usize,
 }
 
-#[derive(Clone, Copy)]
+#[derive(Clone, Copy, PartialEq, Eq)]
 pub struct Region {
     pub offset: usize,
     pub width: usize,

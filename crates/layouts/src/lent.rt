@@ -8,7 +8,7 @@ ghost use Rattle.layouts.specs.Refusals.{layout_no, source_need, lent_no};
 
 use crate::layout::Layout;
 use crate::levels::{height, width};
-use settings::refusal::{BadLent, Refusal, Tested};
+use settings::refusal::{BadLent, Refusal, refuse_if};
 
 pub fn source_need(layout: Layout, src_pitch: usize) -> usize
     requires { (layout_no layout ≡ 0) × (src_pitch ≤ most_pitch) }
@@ -27,12 +27,10 @@ pub fn spill_need(layout: Layout) -> usize
     requires { layout_no layout ≡ 0 }
     ensures { result ≡ spill_need layout }
 {
-    let opts = layout.opts;
-    if opts.full {
+    if layout.opts.full {
         return 16;
     }
-    let n = opts.naturals();
-    if n.levels < 2 {
+    if layout.opts.naturals().levels < 2 {
         return 16;
     }
     height(layout, 1) * layout.pitch
@@ -46,6 +44,7 @@ pub fn scratch_need(layout: Layout) -> usize
 }
 
 // Refusals 10 to 13, by the lengths, where the last level ends at end. Only an accepted layout and source pitch have needs that fit.
+#[tactic(auto, unfolding(crate::specs::Refusals::lent_no))]
 pub fn lent_tested(
     layout: Layout,
     end: usize,
@@ -54,16 +53,13 @@ pub fn lent_tested(
     frame: usize,
     spill: usize,
     scratch: usize,
-) -> Tested
+) -> Result<(), Refusal>
     requires { (layout_no layout ≡ 0) × (src_pitch ≤ most_pitch) × (end ≡ written_end layout) }
     ensures { tested result ≡ lent_no layout src src_pitch frame spill scratch }
 {
-    let source = source_need(layout, src_pitch);
-    let beyond = spill_need(layout);
-    let room = scratch_need(layout);
-    Tested::Fine
-        .then_refuse(src < source, Refusal::Lent(BadLent::Source))
-        .then_refuse(frame < end, Refusal::Lent(BadLent::Frame))
-        .then_refuse(spill < beyond, Refusal::Lent(BadLent::Spill))
-        .then_refuse(scratch < room, Refusal::Lent(BadLent::Scratch))
+    refuse_if(src < source_need(layout, src_pitch), BadLent::Source)?;
+    refuse_if(frame < end, BadLent::Frame)?;
+    refuse_if(spill < spill_need(layout), BadLent::Spill)?;
+    refuse_if(scratch < scratch_need(layout), BadLent::Scratch)?;
+    Ok(())
 }

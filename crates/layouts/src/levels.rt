@@ -9,7 +9,7 @@ ghost use Rattle.layouts.specs.Refusals.{least_pitch, bad_pitch, layout_no};
 use crate::descent::Descent;
 use crate::layout::Layout;
 use settings::limits::MOST_PITCH;
-use settings::refusal::{BadLayout, Refusal, Tested};
+use settings::refusal::{BadLayout, Refusal, refuse_if};
 use settings::super_opts::reduce_dim;
 
 // By any shift.
@@ -31,16 +31,14 @@ pub fn bad_pitch(pitch: usize, least: usize) -> bool
 pub fn width(layout: Layout, level: u32) -> usize
     ensures { result ≡ width_at layout level }
 {
-    let opts = layout.opts;
-    let n = opts.naturals();
+    let n = layout.opts.naturals();
     shifted(reduce_dim(n.width, level), layout.x_shift) as usize
 }
 
 pub fn height(layout: Layout, level: u32) -> usize
     ensures { result ≡ height_at layout level }
 {
-    let opts = layout.opts;
-    let n = opts.naturals();
+    let n = layout.opts.naturals();
     shifted(reduce_dim(n.height, level), layout.y_shift) as usize
 }
 
@@ -51,11 +49,10 @@ pub fn stored(layout: Layout, level: u32) -> usize
     if level != 0 {
         return 1;
     }
-    let opts = layout.opts;
-    if !opts.full {
+    if !layout.opts.full {
         return 0;
     }
-    let n = opts.naturals();
+    let n = layout.opts.naturals();
     n.pel as usize * n.pel as usize
 }
 
@@ -63,28 +60,25 @@ pub fn stored(layout: Layout, level: u32) -> usize
 pub fn least_pitch(layout: Layout) -> usize
     ensures { result ≡ least_pitch layout }
 {
-    let opts = layout.opts;
-    if opts.full {
+    if layout.opts.full {
         return width(layout, 0);
     }
     width(layout, 1)
 }
 
 // Refusals 6, 7 and 8.
-pub fn tested(layout: Layout) -> Tested
+#[tactic(auto, unfolding(crate::specs::Refusals::layout_no))]
+pub fn tested(layout: Layout) -> Result<(), Refusal>
     ensures { tested result ≡ layout_no layout }
 {
-    let opts = layout.opts;
-    let record = opts.accepted();
+    refuse_if(!layout.opts.accepted(), Refusal::NoRecord)?;
+    refuse_if(
+        (layout.x_shift > 1) | (layout.y_shift > 1),
+        BadLayout::Shift,
+    )?;
     let least = least_pitch(layout);
-    let bad = bad_pitch(layout.pitch, least);
-    Tested::Fine
-        .then_refuse(!record, Refusal::NoRecord)
-        .then_refuse(
-            (layout.x_shift > 1) | (layout.y_shift > 1),
-            Refusal::Layout(BadLayout::Shift),
-        )
-        .then_refuse(bad, Refusal::Layout(BadLayout::Pitch))
+    refuse_if(bad_pitch(layout.pitch, least), BadLayout::Pitch)?;
+    Ok(())
 }
 
 // Where a level lies; at the count of levels, where the last one ends.

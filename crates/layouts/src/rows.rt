@@ -19,35 +19,33 @@ pub struct Run {
     pub length: usize,
 }
 
-#[derive(Clone, Copy)]
-pub enum Placed {
-    At(Run),
-    Refused(Refusal),
-}
-
 // Row y of a plane of a level that lies at target. Refusal 19.
-pub fn placed_at(target: Region, layout: Layout, level: u32, plane: usize, y: usize) -> Placed
+pub fn placed_at(
+    target: Region,
+    layout: Layout,
+    level: u32,
+    plane: usize,
+    y: usize,
+) -> Result<Run, Refusal>
     requires { (layout_no layout ≡ 0) × (level < levels_of layout) × (target ≡ region_at layout level) }
     ensures { placed result ≡ if_done (refuse (no_row layout level plane y) 19) (run_of layout level plane y) no_run }
 {
     if (stored(layout, level) <= plane) | (target.height <= y) {
-        return Placed::Refused(Refusal::NoRow);
+        return Err(Refusal::NoRow);
     }
-    Placed::At(Run {
+    Ok(Run {
         offset: target.offset + (plane * target.height + y) * layout.pitch,
         length: target.width,
     })
 }
 
 // Row y of a plane of a level, in a frame that is long enough. A level that isn't there is told first: no walk reaches it. Refusal 19.
-pub fn row_in(layout: Layout, level: u32, plane: usize, y: usize) -> Placed
+pub fn row_in(layout: Layout, level: u32, plane: usize, y: usize) -> Result<Run, Refusal>
     requires { layout_no layout ≡ 0 }
     ensures { placed result ≡ if_done (refuse (no_row layout level plane y) 19) (run_of layout level plane y) no_run }
 {
-    let opts = layout.opts;
-    let n = opts.naturals();
-    if n.levels <= level {
-        return Placed::Refused(Refusal::NoRow);
+    if layout.opts.naturals().levels <= level {
+        return Err(Refusal::NoRow);
     }
     let at = Descent::top(layout).down(layout, 0, level);
     let target = at.region(layout, level);
@@ -55,16 +53,12 @@ pub fn row_in(layout: Layout, level: u32, plane: usize, y: usize) -> Placed
 }
 
 // The frame's own bytes where an answer says that they lie, none where it is refused.
-pub fn hand_out(frame: &[u8], at: Placed) -> &[u8]
+pub fn hand_out(frame: &[u8], at: Result<Run, Refusal>) -> &[u8]
     requires { (placed at).value.offset + (placed at).value.length ≤ length frame.now }
     ensures { (result.now ≡ take (placed at).value.length (drop (placed at).value.offset frame.now)) × (result.ref_ptr ≡ part_at frame.entry (placed at).value.offset) }
 {
     match at {
-        Placed::At(run) => {
-            let start = run.offset;
-            let end = start + run.length;
-            &frame[start..end]
-        }
-        Placed::Refused(_) => &frame[..0],
+        Ok(run) => &frame[run.offset..run.offset + run.length],
+        Err(_) => &frame[..0],
     }
 }

@@ -1,86 +1,91 @@
 // The programs `words` and `longhand`: what they print for a whole input, and the programs themselves, as a function.
-// First what is printed for a line, put into a lent slice; then for all lines, and the whole output; last `answer_input`, which reads, and writes that.
+// First the two programs, each by the line that it prints for a line; then a text put into a lent slice, all lines, and the whole output; last `answer_input`, which reads, and writes that. Input and output lie in arrays of fixed size: nothing here is on a heap.
 #![tactic(auto)]
 
-ghost use Rattle.std.specs.Prelude.{◌≡◌, ◌++◌, ◌+◌, ◌≤◌, length, take, drop};
+ghost use Rattle.std.specs.Prelude.{◌≡◌, ℕ, List, ◌++◌, ◌+◌, ◌≤◌, length, take, drop};
 ghost use Rattle.lines.specs.Limits.{most_printed};
-ghost use Rattle.lines.specs.Text.{room, shown, Printed};
+ghost use Rattle.lines.specs.Text.{line_out, Printed};
 ghost use Rattle.lines.specs.Parting.{lines_of};
-ghost use Rattle.line_answers.specs.Output.{line_for, lines_for, output_of, Front};
+ghost use Rattle.longhand_lines.specs.Longhand.{longhand_line};
+ghost use Rattle.line_answers.specs.Output.{lines_for, output_of, Front};
 
 use input::read_full;
 use lines::limits::{MOST_INPUT, MOST_OUTPUT};
-use lines::parting::bytes_before;
+use lines::parting::parted;
 use lines::text::{Line, line_out};
 use longhand_lines::longhand::longhand_line;
 use std::io;
 
-// Which program answers: which build each stored word names, or longhand records and settings.
-#[derive(Clone, Copy)]
-pub enum Program {
-    Words,
-    Longhand,
+// A program that answers each line of its input by itself.
+pub trait Program {
+    // The line that it prints for a line.
+    ghost line_for: { List ℕ → List ℕ };
+
+    fn line_for(line: &[u8]) -> Line
+        ensures { Printed (length line.now) result (line_for line.now) };
 }
 
-fn line_for(program: Program, line: &[u8]) -> Line
-    ensures { Printed (length line.now) result (line_for program line.now) }
-{
-    match program {
-        Program::Words => line_out(line),
-        Program::Longhand => longhand_line(line),
+// Which build each stored word names.
+pub struct Words;
+
+impl Program for Words {
+    ghost line_for = { line_out };
+
+    fn line_for(line: &[u8]) -> Line {
+        line_out(line)
     }
 }
 
-// To the front of `to`; answers how many bytes were copied.
-fn copy(from: &[u8], to: &mut [u8]) -> usize
-    requires { length from.now ≤ length to.old }
-    ensures { (result ≡ length from.now) × (to.new ≡ from.now ++ drop (length from.now) to.old) }
-{
-    let n = from.len();
-    to[..n].copy_from_slice(from);
-    n
+// Longhand records and settings.
+pub struct Longhand;
+
+impl Program for Longhand {
+    ghost line_for = { longhand_line };
+
+    fn line_for(line: &[u8]) -> Line {
+        longhand_line(line)
+    }
 }
 
-// The line's text from place `at` on; answers the place after it.
-fn put_line(out: &mut [u8], at: usize, line: Line) -> usize
-    requires { (line.len ≤ room) × (at + line.len ≤ length out.old) }
-    ensures { (result ≡ at + length (shown line)) × (out.new ≡ take at out.old ++ shown line ++ drop (at + length (shown line)) out.old) }
+// The text from place `at` on; answers the place after it.
+fn put(out: &mut [u8], at: usize, text: &[u8]) -> usize
+    requires { at + length text.now ≤ length out.old }
+    ensures { (result ≡ at + length text.now) × (out.new ≡ take at out.old ++ text.now ++ drop (at + length text.now) out.old) }
 {
-    let text = line.bytes;
-    let n = line.len;
-    at + copy(&text[..n], &mut out[at..])
+    let end = at + text.len();
+    out[at..end].copy_from_slice(text);
+    end
 }
 
-fn put_lines(program: Program, input: &[u8], out: &mut [u8]) -> usize
+fn put_lines<P: Program>(input: &[u8], out: &mut [u8]) -> usize
     requires { most_printed (length input.now + 1) ≤ length out.old }
-    ensures { Front (lines_for program (lines_of input.now)) out.old result out.new }
+    ensures { Front (lines_for P.line_for (lines_of input.now)) out.old result out.new }
 {
-    let mut at = 0;
+    let mut rest = input;
     let mut n = 0;
-    while at < input.len() {
-        let rest = &input[at..];
-        let end = bytes_before(rest, b'\n');
-        n = put_line(out, n, line_for(program, &rest[..end]));
-        at += end + 1;
+    while !rest.is_empty() {
+        let (line, others) = parted(rest, b'\n');
+        n = put(out, n, P::line_for(line).as_bytes());
+        rest = others;
     }
     n
 }
 
 // The whole output, to the front of `out`; answers how many bytes it has.
-pub fn output(program: Program, input: &[u8], out: &mut [u8; MOST_OUTPUT]) -> usize
-    ensures { Front (output_of program input.now) out.old result out.new }
+pub fn output<P: Program>(input: &[u8], out: &mut [u8; MOST_OUTPUT]) -> usize
+    ensures { Front (output_of P.line_for input.now) out.old result out.new }
 {
     if input.len() > MOST_INPUT {
-        return copy(b"too long\n", out);
+        return put(out, 0, b"too long\n");
     }
-    put_lines(program, input, out)
+    put_lines::<P>(input, out)
 }
 
-pub fn answer_input<R: Input + Print>(rt: &R, program: Program) -> io::Result<()> {
+pub fn answer_input<P: Program, R: Input + Print>(rt: &R) -> io::Result<()> {
     // A byte more than is taken tells an input that is too long.
     let mut input = [0u8; MOST_INPUT + 1];
     let n = read_full(rt, &mut input)?;
     let mut out = [0u8; MOST_OUTPUT];
-    let k = output(program, &input[..n], &mut out);
+    let k = output::<P>(&input[..n], &mut out);
     rt.write_all(&out[..k])
 }

@@ -1,10 +1,10 @@
 -- An input parted into lines.
-use Rattle.std.specs.Prelude.{ℕ, suc, cond, List, [], ◌∷◌, eqb}
+use Rattle.std.specs.Prelude.{ℕ, cond, List, [], ◌∷◌, ◌==◌, eqb}
+use Rattle.std.specs.List.{position_or_len}
 
 -- how many bytes stand before the first b; all of them where there is none
-unfoldable pub before : ℕ → List ℕ → ℕ
-before b [] = 0
-before b (a ∷ l) = cond (eqb a b) 0 (suc (before b l))
+abbrev pub before : ℕ → List ℕ → ℕ
+before b l = position_or_len (λ a. a == b) l
 
 -- b in front of the first line
 abbrev pub ahead : ℕ → List (List ℕ) → List (List ℕ)

@@ -1,11 +1,7 @@
 -- Text in and out: digits, numbers, and last, inner, a line that is being made; between them document 01, "Words read and compared": the line that the program `words` prints for a line.
-use Rattle.std.specs.Prelude.{ℕ, zero, suc, ◌+◌, ◌*◌, ◌-◌, ◌/◌, ◌%◌, ◌≤◌, ◌≡◌, Bool, true, cond, ◌&&◌, ◌||◌, List, [], ◌∷◌, ◌++◌, leb, ltb, eqb, ℤ, pos, negsuc, length, take}
-use Rattle.settings.specs.declared.super_opts.OptInt.{OptInt}
-use Rattle.settings.specs.declared.super_opts.OptInt.TheVariants.{Given as GivenInt, Absent as NoInt}
+use Rattle.std.specs.Prelude.{ℕ, zero, suc, ◌+◌, ◌*◌, ◌-◌, ◌/◌, ◌%◌, ◌≤◌, ◌≡◌, Bool, cond, ◌&&◌, ◌||◌, List, [], ◌∷◌, ◌++◌, leb, ltb, eqb, ℤ, pos, negsuc, length, fold, Option, Some, None}
+use Rattle.std.specs.List.{list_all}
 use Rattle.settings.specs.declared.word.Description.{Description}
-use Rattle.lines.specs.declared.text.Line.{Line}
-use Rattle.lines.specs.declared.text.Number.{Number}
-use Rattle.lines.specs.declared.text.Number.TheVariants.{Value, Other}
 use Rattle.settings.specs.Numbers.{bit}
 use Rattle.settings.specs.Answers.{read_answer}
 use Rattle.lines.specs.Limits.{most_printed}
@@ -21,17 +17,15 @@ hex_of b = cond (leb b 57) (b - 48) (b - 87)
 abbrev pub is_digit : ℕ → ℕ → Bool
 is_digit base b = is_hex b && ltb (hex_of b) base
 
-unfoldable pub all_digits : ℕ → List ℕ → Bool
-all_digits base [] = true
-all_digits base (b ∷ l) = is_digit base b && all_digits base l
+abbrev pub all_digits : ℕ → List ℕ → Bool
+all_digits base l = list_all (is_digit base) l
 
 -- v and the digits of l after it
-unfoldable pub number_of : ℕ → ℕ → List ℕ → ℕ
-number_of base v [] = v
-number_of base v (b ∷ l) = number_of base (base * v + hex_of b) l
+abbrev pub number_of : ℕ → ℕ → List ℕ → ℕ
+number_of base v l = fold (λ v b. base * v + hex_of b) v l
 
-abbrev pub hex_read : List ℕ → Number
-hex_read l = cond (eqb (length l) 16 && all_digits 16 l) (Value (number_of 16 0 l)) Other
+abbrev pub hex_read : List ℕ → Option ℕ
+hex_read l = cond (eqb (length l) 16 && all_digits 16 l) (Some (number_of 16 0 l)) None
 
 -- ---- out: decimal, of at most k digits
 unfoldable pub digits : ℕ → ℕ → List ℕ
@@ -40,10 +34,6 @@ digits (suc k) n = let more = digits k (n / 10) ++ ((48 + n % 10) ∷ []) in con
 
 abbrev pub decimal : ℕ → List ℕ
 decimal n = digits 20 n
-
-abbrev pub magnitude : ℤ → ℕ
-magnitude (pos n) = n
-magnitude (negsuc n) = suc n
 
 abbrev pub signed : ℤ → List ℕ
 signed (pos n) = decimal n
@@ -54,9 +44,9 @@ abbrev pub spaced : List ℕ → List ℕ
 spaced l = 32 ∷ l
 
 -- "`-` for one that doesn't matter"
-abbrev pub optional : OptInt → List ℕ
-optional (GivenInt z) = spaced (signed z)
-optional NoInt = spaced (45 ∷ [])
+abbrev pub optional : Option ℤ → List ℕ
+optional (Some z) = spaced (signed z)
+optional None = spaced (45 ∷ [])
 
 -- "width, height, pel, levels, gpu, full, rc, lean, down, up"
 abbrev pub sizes_text : Description → List ℕ
@@ -83,9 +73,9 @@ word_line l v =
     l ++ spaced (decimal a.no) ++ cond (eqb a.no 0) (described a.value) []
 
 -- "Any other line prints `-`. Each printed line ends in a newline."
-abbrev pub line_of : List ℕ → Number → List ℕ
-line_of l (Value v) = word_line l v ++ (10 ∷ [])
-line_of l Other = 45 ∷ 10 ∷ []
+abbrev pub line_of : List ℕ → Option ℕ → List ℕ
+line_of l (Some v) = word_line l v ++ (10 ∷ [])
+line_of l None = 45 ∷ 10 ∷ []
 
 abbrev pub line_out : List ℕ → List ℕ
 line_out l = line_of l (hex_read l)
@@ -95,16 +85,13 @@ line_out l = line_of l (hex_read l)
 abbrev pub room : ℕ
 room = 256
 
-abbrev pub shown : Line → List ℕ
-shown l = take l.len l.bytes
-
 -- r is l with the text t after it, of at most k bytes
-pub record Appended (l r : Line) (t : List ℕ) (k : ℕ) : Type 0 where
-  pub text : shown r ≡ shown l ++ t
-  pub room : r.len ≤ l.len + k
+pub record Appended (l r t : List ℕ) (k : ℕ) : Type 0 where
+  pub text : r ≡ l ++ t
+  pub room : length r ≤ length l + k
 
 -- r is t, what is printed for a line of k bytes
-pub record Printed (k : ℕ) (r : Line) (t : List ℕ) : Type 0 where
-  pub text : shown r ≡ t
-  pub room : r.len ≤ room
-  pub most : r.len ≤ most_printed (k + 1)
+pub record Printed (k : ℕ) (r t : List ℕ) : Type 0 where
+  pub text : r ≡ t
+  pub room : length r ≤ room
+  pub most : length r ≤ most_printed (k + 1)

@@ -8,6 +8,7 @@ use lib.Dec.{leb, eqb}
 use lib.ListN.{length}
 use borrow.Author.Tests.{leb-true, eqb-true}
 use Rattle.settings.proofs.Tests.{and_left, and_right}
+use Rattle.std.proofs.lemmas.List.Sums.{count_by-le-length}
 use Rattle.longhands.specs.Longhand.{longhand_no, longhand_answer}
 use Rattle.longhands.proofs.Encodings.{spelled}
 use Rattle.lines.specs.Limits.{most_input}
@@ -15,7 +16,6 @@ use Rattle.lines.specs.Text.{all_digits}
 use Rattle.longhand_lines.specs.Fields.{times}
 use Rattle.longhand_lines.specs.Hex.{bytes_of}
 use Rattle.longhand_lines.specs.Longhand.{is_record, are_sizes, are_numbers, are_flags, is_asked, read_most, text_most}
-use Rattle.longhand_lines.proofs.Parts.{times_most}
 
 -- ---- a record
 pub record Digits (l : List ℕ) : Type 0 where
@@ -56,4 +56,4 @@ unfolding is_asked
 asked_fits l e =
     let spaces = eqb (times 32 l) 8 in
     let front = and_left (spaces && are_sizes l && are_numbers l) (are_flags l) e in
-    omega (arith, times_most 32 l, eqb-true (times 32 l) 8 (and_left spaces (are_sizes l) (and_left (spaces && are_sizes l) (are_numbers l) front)))
+    omega (arith, count_by-le-length (λ (a : ℕ). eqb a 32) l, eqb-true (times 32 l) 8 (and_left spaces (are_sizes l) (and_left (spaces && are_sizes l) (are_numbers l) front)))

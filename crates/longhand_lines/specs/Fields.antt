@@ -1,18 +1,12 @@
 -- A line into fields, "parted by single spaces", and the settings that fields are: an integer, a flag, or a lone `-`.
-use Rattle.std.specs.Prelude.{ℕ, zero, suc, ◌+◌, ◌-◌, ◌^◌, Bool, true, false, cond, ◌&&◌, ◌||◌, List, [], ◌∷◌, leb, eqb, pos, neg_ℤ, length, get_or, take, drop}
-use Rattle.settings.specs.declared.super_opts.OptInt.{OptInt}
-use Rattle.settings.specs.declared.super_opts.OptInt.TheVariants.{Given as GivenInt, Absent as NoInt}
-use Rattle.settings.specs.declared.super_opts.OptBool.{OptBool}
-use Rattle.settings.specs.declared.super_opts.OptBool.TheVariants.{Given as GivenBool, Absent as NoBool}
-use Rattle.settings.specs.Numbers.{bit}
+use Rattle.std.specs.Prelude.{ℕ, zero, suc, ◌-◌, ◌^◌, Bool, cond, ◌&&◌, ◌||◌, List, [], ◌∷◌, leb, eqb, ◌==◌, count_by, ℤ, pos, neg_ℤ, length, get_or, take, drop, Option, Some, None, is_some}
 use Rattle.lines.specs.Text.{all_digits, number_of}
 use Rattle.lines.specs.Parting.{before}
 
 -- ---- fields
 -- how often b stands there
-unfoldable pub times : ℕ → List ℕ → ℕ
-times b [] = 0
-times b (a ∷ l) = bit (eqb a b) + times b l
+abbrev pub times : ℕ → List ℕ → ℕ
+times b l = count_by (λ a. a == b) l
 
 -- what stands before the first space, and what after it
 abbrev pub first_field : List ℕ → List ℕ
@@ -30,20 +24,16 @@ field_at l (suc k) = field_at (other_fields l) k
 abbrev pub is_decimal : ℕ → List ℕ → Bool
 is_decimal m l = leb 1 (length l) && leb (length l) 10 && all_digits 10 l && leb (number_of 10 0 l) m
 
-abbrev pub plain_of : List ℕ → OptInt
-plain_of l = cond (is_decimal (2 ^ 31 - 1) l) (GivenInt (pos (number_of 10 0 l))) NoInt
+abbrev pub plain_of : List ℕ → Option ℤ
+plain_of l = cond (is_decimal (2 ^ 31 - 1) l) (Some (pos (number_of 10 0 l))) None
 
-abbrev pub minus_of : List ℕ → OptInt
-minus_of l = cond (is_decimal (2 ^ 31) l) (GivenInt (neg_ℤ (pos (number_of 10 0 l)))) NoInt
+abbrev pub minus_of : List ℕ → Option ℤ
+minus_of l = cond (is_decimal (2 ^ 31) l) (Some (neg_ℤ (pos (number_of 10 0 l)))) None
 
 -- the integer that a field is; none where it is none
-abbrev pub int_of : List ℕ → OptInt
-int_of [] = NoInt
+abbrev pub int_of : List ℕ → Option ℤ
+int_of [] = None
 int_of (b ∷ l) = cond (eqb b 45) (minus_of l) (plain_of (b ∷ l))
-
-abbrev pub is_given : OptInt → Bool
-is_given (GivenInt z) = true
-is_given NoInt = false
 
 -- a field of the one byte b
 abbrev pub is_byte : List ℕ → ℕ → Bool
@@ -51,11 +41,11 @@ is_byte l b = eqb (length l) 1 && eqb (get_or l 0 0) b
 
 -- an integer, or a lone `-` for a setting that is absent
 abbrev pub is_setting : List ℕ → Bool
-is_setting l = is_given (int_of l) || is_byte l 45
+is_setting l = is_some (int_of l) || is_byte l 45
 
 -- 0, 1, or a lone `-`
 abbrev pub is_flag : List ℕ → Bool
 is_flag l = is_byte l 48 || is_byte l 49 || is_byte l 45
 
-abbrev pub flag_of : List ℕ → OptBool
-flag_of l = cond (is_byte l 45) NoBool (GivenBool (is_byte l 49))
+abbrev pub flag_of : List ℕ → Option Bool
+flag_of l = cond (is_byte l 45) None (Some (is_byte l 49))

@@ -1,5 +1,6 @@
 -- Bytes as hexadecimal digits, two for each.
 use Rattle.std.specs.Prelude.{ℕ, zero, suc, ◌+◌, ◌*◌, ◌/◌, ◌%◌, cond, List, [], ◌∷◌, ◌++◌, ltb}
+use Rattle.std.specs.List.{flat_map}
 use Rattle.lines.specs.Text.{hex_of}
 
 -- ---- in: the bytes that digits spell
@@ -16,6 +17,5 @@ unfoldable pub hex_digits : ℕ → ℕ → List ℕ
 hex_digits zero n = []
 hex_digits (suc k) n = hex_digits k (n / 16) ++ (hex_digit (n % 16) ∷ [])
 
-unfoldable pub hex_text : List ℕ → List ℕ
-hex_text [] = []
-hex_text (b ∷ l) = hex_digits 2 b ++ hex_text l
+abbrev pub hex_text : List ℕ → List ℕ
+hex_text l = flat_map (hex_digits 2) l

@@ -1,14 +1,13 @@
 -- The lines of the program `longhand`: a longhand record in hexadecimal, which is read, and settings, which are written as one.
-use Rattle.std.specs.Prelude.{ℕ, ◌+◌, ◌-◌, ◌%◌, min, Bool, cond, ◌&&◌, ◌||◌, List, [], ◌∷◌, ◌++◌, leb, eqb, ℤ, pos, length, replicate}
+use Rattle.std.specs.Prelude.{ℕ, ◌+◌, ◌-◌, ◌%◌, min, Bool, cond, ◌&&◌, ◌||◌, List, [], ◌∷◌, ◌++◌, leb, eqb, ℤ, pos, length, replicate, is_some, unwrap_or}
 use Rattle.settings.specs.declared.super_opts.Settings.{Settings}
 use Rattle.settings.specs.declared.super_opts.SuperOpts.{SuperOpts}
-use Rattle.settings.specs.Check.{int_or}
 use Rattle.settings.specs.Answers.{Answer, check_answer, pack_answer}
 use Rattle.longhands.specs.declared.longhand.Longhand.{Longhand}
 use Rattle.longhands.specs.Longhand.{kind1_bytes, longhand_answer, write_answer}
 use Rattle.lines.specs.Limits.{most_input, most_printed}
 use Rattle.lines.specs.Text.{all_digits, decimal, signed, spaced, flags_text}
-use Rattle.longhand_lines.specs.Fields.{times, field_at, int_of, is_given, is_setting, is_flag, flag_of}
+use Rattle.longhand_lines.specs.Fields.{times, field_at, int_of, is_setting, is_flag, flag_of}
 use Rattle.longhand_lines.specs.Hex.{bytes_of, hex_digits, hex_text}
 
 -- ---- in: a record, two digits for each byte; no line is longer than the input
@@ -17,7 +16,7 @@ is_record l = leb 2 (length l) && leb (length l) most_input && eqb (length l % 2
 
 -- ---- in: nine settings, width, height, pel, gpu, full, rc, lean, down and up
 abbrev pub are_sizes : List ℕ → Bool
-are_sizes l = is_given (int_of (field_at l 0)) && is_given (int_of (field_at l 1))
+are_sizes l = is_some (int_of (field_at l 0)) && is_some (int_of (field_at l 1))
 
 abbrev pub are_numbers : List ℕ → Bool
 are_numbers l = is_setting (field_at l 2) && is_setting (field_at l 3) && is_setting (field_at l 7) && is_setting (field_at l 8)
@@ -29,7 +28,7 @@ unfoldable pub is_asked : List ℕ → Bool
 is_asked l = eqb (times 32 l) 8 && are_sizes l && are_numbers l && are_flags l
 
 abbrev pub asked_side : List ℕ → ℕ → ℤ
-asked_side l k = int_or (int_of (field_at l k)) (pos 0)
+asked_side l k = unwrap_or (int_of (field_at l k)) (pos 0)
 
 unfoldable pub asked_settings : List ℕ → Settings
 asked_settings l =

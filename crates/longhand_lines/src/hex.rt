@@ -10,8 +10,8 @@ pub(crate) fn spell(line: &[u8], out: &mut [u8])
     requires { (all_digits 16 line.now ≡ true) × (length line.now ≤ 2 * length out.old) }
     ensures { take (length line.now / 2) out.new ≡ bytes_of line.now }
 {
-    for i in 0..line.len() / 2 {
-        out[i] = (16 * hex_of(line[2 * i]) + hex_of(line[2 * i + 1])) as u8;
+    for (i, pair) in line.chunks_exact(2).enumerate() {
+        out[i] = (16 * hex_of(pair[0]) + hex_of(pair[1])) as u8;
     }
 }
 
@@ -19,15 +19,16 @@ fn hex_digit(d: u64) -> u8
     requires { d < 16 }
     ensures { result ≡ hex_digit d }
 {
-    if d < 10 {
-        return (48 + d) as u8;
+    match d {
+        0..=9 => b'0' + d as u8,
+        _ => b'a' + (d - 10) as u8,
     }
-    (87 + d) as u8
 }
 
-// The last `count` hexadecimal digits of n.
+// The last `count` hexadecimal digits of n. By hand, as the digits of a `Line`.
+#[tactic(auto, unfolding(crate::specs::Hex::hex_digits))]
 pub(crate) fn with_hex(text: Line, n: u64, count: usize) -> Line
-    requires { text.len + count ≤ room }
+    requires { length text + count ≤ room }
     ensures { Appended text result (hex_digits count n) count }
 {
     if count == 0 {
@@ -37,12 +38,12 @@ pub(crate) fn with_hex(text: Line, n: u64, count: usize) -> Line
 }
 
 pub(crate) fn with_hex_bytes(text: Line, bytes: &[u8]) -> Line
-    requires { text.len + 2 * length bytes.now ≤ room }
+    requires { length text + 2 * length bytes.now ≤ room }
     ensures { Appended text result (hex_text bytes.now) (2 * length bytes.now) }
 {
     let mut next = text;
-    for i in 0..bytes.len() {
-        next = with_hex(next, bytes[i] as u64, 2);
+    for &b in bytes {
+        next = with_hex(next, u64::from(b), 2);
     }
     next
 }

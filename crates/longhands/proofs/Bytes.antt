@@ -1,8 +1,10 @@
 -- Numbers as bytes: a number is its bytes' value, and bytes are their value's; the numbers that one, two and four bytes are; and parts of a list, which its rest doesn't change. Assumes nothing.
+use Rattle.std.specs.Int.{to_le_bytes}
+use mir.Syntax.{w16, w32}
 use mathlib.Core.Path.{◌≡◌, refl, sym, ap, ◌∙◌, subst}
 use mathlib.Core.Bool.{true}
 use mathlib.Core.List.{List, [], ◌∷◌, ◌++◌}
-use Prim.Native.Nat.{ℕ, zero, suc, ◌+◌, ◌*◌, ◌/◌, ◌%◌, ◌≤◌, ◌<◌}
+use Prim.Native.Nat.{ℕ, zero, suc, ◌+◌, ◌*◌, ◌/◌, ◌%◌, ◌≤◌, ◌<◌, ◌^◌}
 use native.Mathlib.Omega.{arith}
 use lib.Dec.{ltb}
 use lib.ListN.{length, take, drop, get_or, length-drop, take-append-drop}
@@ -44,6 +46,38 @@ unfolding value_of
 value_small [] e = omega arith
 value_small (b ∷ l) e = omega (arith, ltb-true b 256 (and_left (ltb b 256) (bytes l) e), value_small l (and_right (ltb b 256) (bytes l) e))
 
+-- ---- the library's bytes
+pub le_2 : (n : ℕ) → to_le_bytes w16 n ≡ little_endian 2 n
+unfolding little_endian
+le_2 n = rw (high n)
+  where
+    high : (n : ℕ) → n / 256 ^ 1 % 256 ≡ n / 256 % 256
+    high n = omega arith
+
+-- of a number that may be larger, its low bytes
+pub le_low : (n : ℕ) → to_le_bytes w16 (n % 2 ^ 16) ≡ little_endian 2 n
+unfolding little_endian
+le_low n = rw (low n, high n)
+  where
+    low : (n : ℕ) → n % 2 ^ 16 % 256 ≡ n % 256
+    low n = omega arith
+
+    high : (n : ℕ) → n % 2 ^ 16 / 256 ^ 1 % 256 ≡ n / 256 % 256
+    high n = omega arith
+
+pub le_4 : (n : ℕ) → to_le_bytes w32 n ≡ little_endian 4 n
+unfolding little_endian
+le_4 n = rw (one n, two n, three n)
+  where
+    one : (n : ℕ) → n / 256 ^ 1 % 256 ≡ n / 256 % 256
+    one n = omega arith
+
+    two : (n : ℕ) → n / 256 ^ 2 % 256 ≡ n / 256 / 256 % 256
+    two n = omega arith
+
+    three : (n : ℕ) → n / 256 ^ 3 % 256 ≡ n / 256 / 256 / 256 % 256
+    three n = omega arith
+
 -- ---- numbers that are read
 suc_is : (n : ℕ) → suc n ≡ n + 1
 suc_is n = omega arith
@@ -68,9 +102,12 @@ pub number_of_2 : (l : List ℕ) (i : ℕ) → i + 2 ≤ length l → number_at 
 unfolding value_of
 number_of_2 l i h = rw (two_of l i h) (omega arith)
 
-pub number_of_4 : (l : List ℕ) (i : ℕ) → i + 4 ≤ length l → number_at l i 4 ≡ number_at l i 2 + 65536 * number_at l (i + 2) 2
+pub number_of_4 : (l : List ℕ) (i : ℕ) → i + 4 ≤ length l → number_at l i 4 ≡ get_or l i 0 + 256 * get_or l (i + 1) 0 + 65536 * get_or l (i + 2) 0 + 16777216 * get_or l (i + 3) 0
 unfolding value_of
-number_of_4 l i h = rw (two_of l i (omega arith)) (omega arith)
+number_of_4 l i h = rw (two_of l i (omega arith), two_of l (i + 2) (omega arith)) (omega (arith, ap (λ k. get_or l k 0) (last i)))
+  where
+    last : (n : ℕ) → n + 2 + 1 ≡ n + 3
+    last n = omega arith
 
 -- ---- parts
 -- of k bytes from place i on, inside the first p, what follows those has no part

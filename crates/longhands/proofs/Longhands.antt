@@ -10,17 +10,15 @@ use borrow.Author.Tests.{ne_eqb, ltb-false, le-ltb}
 use Rattle.settings.specs.declared.refusal.Refusal.{Refusal}
 use Rattle.settings.specs.declared.super_opts.SuperOpts.{SuperOpts}
 use Rattle.settings.specs.Numbers.{refuse}
-use Rattle.settings.specs.Check.{record_no}
-use Rattle.settings.specs.Answers.{answer, if_done, number, no_record, written}
+use Rattle.settings.specs.Answers.{answer, if_done, number, no_record}
 use Rattle.settings.proofs.Tests.{or_false_left, or_false_right}
 use Rattle.settings.proofs.Refusals.{then_first, then_rest, refuse_not}
 use Rattle.settings.proofs.Known.{given, number_then, number_some, number_not_16, number_of, value_given}
 use Rattle.settings.proofs.Pasting.{from_start, put_next}
 use Rattle.longhands.specs.LittleEndian.{little_endian}
 use Rattle.longhands.specs.Kind1.{kind1_body, kind1_record, kind1_good}
-use Rattle.longhands.specs.Longhand.{framed, length_of, kind_of, place_after, body_of, is_known, kind_length, is_body, length_no, longhand_no, no_longhand, longhand_answer, longhand_of, write_no, write_answer}
+use Rattle.longhands.specs.Longhand.{framed, length_of, kind_of, place_after, body_of, is_known, kind_length, is_body, length_no, longhand_no, no_longhand, longhand_answer, longhand_of}
 use Rattle.longhands.proofs.Bytes.{bytes_long}
-use Rattle.longhands.proofs.Bodies.{body_long}
 
 -- ---- the frame
 -- all of a record's bytes are there, a kind among them
@@ -90,14 +88,3 @@ frame_put {x} {y} {a} {b} {c} kind body out is_x is_y p q r =
 longhand_long : (r : SuperOpts) → length (longhand_of r) ≡ 21
 unfolding little_endian kind1_body
 longhand_long r = refl
-
-pub write_room : (r : SuperOpts) (out : List ℕ) → write_no r out ≡ 0 → 21 ≤ length out
-write_room r out e = ltb-false (length out) 21 (refuse_not (ltb (length out) 21) 14 (then_rest (record_no r) (refuse (ltb (length out) 21) 15) e))
-
-pub longhand_put : {b o : List ℕ} (r : SuperOpts) (out : List ℕ) → write_no r out ≡ 0 → b ≡ kind1_body r → o ≡ framed 1 b ++ drop (6 + length b) out → answer 0 o ≡ write_answer r out
-longhand_put {b} {o} r out none is_b put =
-    let whole : o ≡ written (longhand_of r) out =
-    put
-    ∙ ap (λ (x : List ℕ). framed 1 x ++ drop (6 + length x) out) is_b
-    ∙ ap (λ (n : ℕ). longhand_of r ++ drop n out) (ap (λ (n : ℕ). 6 + n) (body_long r) ∙ sym (longhand_long r)) in
-    ap (answer 0) whole ∙ given (write_no r out) (written (longhand_of r) out) out none

@@ -1,13 +1,13 @@
 -- Document 02, order 1: the longhand record. First its frame: "length (4 bytes, counting what follows), kind (2 bytes, ..)", then a body; then the kinds that are known; last the number and value of reading and of writing.
 -- A further kind adds a case to `is_known`, `kind_length`, `is_body` and `record_in`, and a body of its own beside Kind1.
-use Rattle.std.specs.Prelude.{ℕ, ◌+◌, ◌-◌, ◌≡◌, Bool, true, false, cond, not, ◌||◌, List, ◌++◌, eqb, ltb, length, take, drop}
+use Rattle.std.specs.Prelude.{ℕ, ◌+◌, ◌-◌, ◌≡◌, Bool, true, false, cond, not, ◌||◌, List, ◌++◌, eqb, ltb, length, take, drop, Result, Ok, Err}
 use Rattle.settings.specs.declared.super_opts.SuperOpts.{SuperOpts}
 use Rattle.settings.specs.Numbers.{is_i32, refuse, ◌then◌}
 use Rattle.settings.specs.Check.{accepted, record_no}
 use Rattle.settings.specs.Answers.{Answer, answer, if_done, number, no_record, written}
 use Rattle.longhands.specs.declared.longhand.Longhand.{Longhand}
-use Rattle.longhands.specs.declared.longhand.Read.{Read}
-use Rattle.longhands.specs.declared.longhand.Read.TheVariants.{Record, Unknown, Refused}
+use Rattle.longhands.specs.declared.longhand.Unread.{Unread}
+use Rattle.longhands.specs.declared.longhand.Unread.TheVariants.{Kind, Refused}
 use Rattle.longhands.specs.LittleEndian.{little_endian, number_at}
 use Rattle.longhands.specs.Kind1.{kind1_length, kind1_body, kind1_record, kind1_good}
 
@@ -71,10 +71,10 @@ longhand_by n l =
 abbrev pub longhand_answer : List ℕ → Answer Longhand
 longhand_answer l = answer (longhand_no l) (longhand_by (longhand_no l) l)
 
-abbrev pub read_as : Read → Answer Longhand
-read_as (Record h) = answer 0 h
-read_as (Unknown place) = answer 16 (no_longhand place)
-read_as (Refused f) = answer (number f) (no_longhand 0)
+abbrev pub read_as : Result Longhand Unread → Answer Longhand
+read_as (Ok h) = answer 0 h
+read_as (Err (Kind place)) = answer 16 (no_longhand place)
+read_as (Err (Refused f)) = answer (number f) (no_longhand 0)
 
 -- ---- writing
 abbrev pub longhand_of : SuperOpts → List ℕ

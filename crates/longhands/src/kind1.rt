@@ -1,13 +1,13 @@
 // The body of a longhand record of kind 1: written, then read.
-ghost use Rattle.std.specs.Prelude.{◌≡◌, not, length, ◌%◌};
+ghost use Rattle.std.specs.Prelude.{◌≡◌, not, length, ◌%◌, ◌^◌};
 ghost use Rattle.settings.specs.Numbers.{refuse};
 ghost use Rattle.settings.specs.Answers.{checked, if_done, no_record};
 ghost use Rattle.longhands.specs.Kind1.{flags_of, kind1_body, kind1_record, kind1_good};
 
-use crate::little_endian::{bytes_2, bytes_4, number_2, number_4};
+use crate::little_endian::{number_2, number_4};
 use settings::numbers::{bit, from_bits, to_bits};
 use settings::refusal::{BadLonghand, Refusal};
-use settings::super_opts::{Checked, SuperOpts, levels_of};
+use settings::super_opts::{SuperOpts, levels_of};
 
 pub const BODY: usize = 15;
 
@@ -20,15 +20,21 @@ fn flags(opts: SuperOpts) -> u8
     ((bit(opts.full) + 2 * bit(opts.rc) + 4 * bit(opts.lean)) % 256) as u8
 }
 
+fn low_16(n: u32) -> u16
+    ensures { result ≡ n % 2 ^ 16 }
+{
+    (n % 0x1_0000) as u16
+}
+
 // Of any record; only an accepted one is written, whose numbers fit their bytes.
 pub fn body(opts: SuperOpts) -> [u8; BODY]
     ensures { result ≡ kind1_body opts }
 {
     let n = opts.naturals();
-    let width = bytes_2(n.width);
-    let height = bytes_2(n.height);
-    let down = bytes_4(to_bits(opts.scale_down));
-    let up = bytes_4(to_bits(opts.scale_up));
+    let width = low_16(n.width).to_le_bytes();
+    let height = low_16(n.height).to_le_bytes();
+    let down = to_bits(opts.scale_down).to_le_bytes();
+    let up = to_bits(opts.scale_up).to_le_bytes();
     [
         width[0],
         width[1],
@@ -49,16 +55,16 @@ pub fn body(opts: SuperOpts) -> [u8; BODY]
 }
 
 // Refusal 18.
-pub fn read_body(body: &[u8]) -> Checked
+pub fn read_body(body: &[u8]) -> Result<SuperOpts, Refusal>
     requires { length body.now ≡ 15 }
     ensures { checked result ≡ if_done (refuse (not (kind1_good body.now)) 18) (kind1_record body.now) no_record }
 {
     let opts = spelled(body);
     let good = opts.accepted_but_levels() & (body[6] < 8);
     if good {
-        return Checked::Accepted(opts);
+        return Ok(opts);
     }
-    Checked::Refused(Refusal::Longhand(BadLonghand::Contents))
+    Err(Refusal::Longhand(BadLonghand::Contents))
 }
 
 fn spelled(body: &[u8]) -> SuperOpts

@@ -1,20 +1,21 @@
 // The longhand record: settings spelled out as bytes, beside a word. Document 02, order 1.
 // First what reading answers; then `read_longhand`, the frame, its kind, and kind 1; last `write_longhand`.
 ghost use Rattle.std.specs.Prelude.{◌≡◌, ◌++◌, ◌+◌, ◌≤◌, ◌<◌, ◌^◌, length, drop};
-ghost use Rattle.settings.specs.Answers.{answer, tested};
-ghost use Rattle.longhands.specs.Longhand.{framed, kind_of, length_no, read_as, longhand_answer, write_answer};
+ghost use Rattle.settings.specs.Answers.{answer, tested, outcome};
+ghost use Rattle.longhands.specs.declared.longhand.Unread.TheVariants.{Refused};
+ghost use Rattle.longhands.specs.Longhand.{framed, kind_of, length_no, no_longhand, read_as, longhand_answer, write_answer};
 
 use crate::kind1::{BODY, LENGTH as KIND_1_LENGTH, body, read_body};
-use crate::little_endian::{bytes_2, bytes_4, number_2, number_4, put};
-use settings::refusal::{BadLonghand, Refusal, Tested};
-use settings::super_opts::{Checked, SuperOpts};
+use crate::little_endian::{number_2, number_4, put};
+use settings::refusal::{BadLonghand, Refusal, refuse_if};
+use settings::super_opts::SuperOpts;
 
 // The bytes of the length, and of length and kind.
 const LENGTH: usize = 4;
 
 const FRAME: usize = 6;
 
-const KIND_1: u32 = 1;
+const KIND_1: u16 = 1;
 
 // The bytes of a record of kind 1.
 pub const RECORD: usize = FRAME + BODY;
@@ -29,84 +30,80 @@ pub struct Longhand {
     pub after: usize,
 }
 
-#[derive(Clone, Copy)]
-pub enum Read {
-    Record(Longhand),
+// Why there is no record.
+#[derive(Clone, Copy, PartialEq, Eq)]
+pub enum Unread {
     // The kind isn't known: the place after the record, by its length.
-    Unknown(usize),
+    Kind(usize),
     Refused(Refusal),
 }
 
+impl From<Refusal> for Unread {
+    ghost from_gives = { λ f u. u ≡ Refused f };
+
+    fn from(f: Refusal) -> Unread {
+        Unread::Refused(f)
+    }
+}
+
 // Refusals 15 to 18.
-pub fn read_longhand(bytes: &[u8]) -> Read
+pub fn read_longhand(bytes: &[u8]) -> Result<Longhand, Unread>
     ensures { read_as result ≡ longhand_answer bytes.now }
 {
-    match length_tested(bytes) {
-        Tested::Fine => read_kind(bytes),
-        Tested::Refused(f) => Read::Refused(f),
-    }
+    length_tested(bytes)?;
+    read_kind(bytes)
 }
 
 // What is refused before a kind is read.
-fn length_tested(bytes: &[u8]) -> Tested
+#[tactic(auto, unfolding(crate::specs::Longhand::length_no))]
+fn length_tested(bytes: &[u8]) -> Result<(), Refusal>
     ensures { tested result ≡ length_no bytes.now }
 {
-    if bytes.len() < LENGTH {
-        return Tested::Refused(Refusal::Longhand(BadLonghand::Short));
-    }
+    refuse_if(bytes.len() < LENGTH, BadLonghand::Short)?;
     let length = number_4(bytes, 0) as usize;
-    let short = bytes.len() < LENGTH + length;
-    Tested::Fine
-        .then_refuse(short, Refusal::Longhand(BadLonghand::Short))
-        .then_refuse(length < 2, Refusal::Longhand(BadLonghand::Length))
+    refuse_if(bytes.len() < LENGTH + length, BadLonghand::Short)?;
+    refuse_if(length < 2, BadLonghand::Length)?;
+    Ok(())
 }
 
-fn read_kind(bytes: &[u8]) -> Read
+fn read_kind(bytes: &[u8]) -> Result<Longhand, Unread>
     requires { length_no bytes.now ≡ 0 }
     ensures { read_as result ≡ longhand_answer bytes.now }
 {
     if number_2(bytes, LENGTH) == KIND_1 {
-        return read_kind_1(bytes);
+        return Ok(read_kind_1(bytes)?);
     }
-    Read::Unknown(LENGTH + number_4(bytes, 0) as usize)
+    Err(Unread::Kind(LENGTH + number_4(bytes, 0) as usize))
 }
 
-fn read_kind_1(bytes: &[u8]) -> Read
+fn read_kind_1(bytes: &[u8]) -> Result<Longhand, Refusal>
     requires { (length_no bytes.now ≡ 0) × (kind_of bytes.now ≡ 1) }
-    ensures { read_as result ≡ longhand_answer bytes.now }
+    ensures { outcome (no_longhand 0) result ≡ longhand_answer bytes.now }
 {
     let length = number_4(bytes, 0) as usize;
     if length != KIND_1_LENGTH {
-        return Read::Refused(Refusal::Longhand(BadLonghand::Length));
+        return Err(Refusal::Longhand(BadLonghand::Length));
     }
     let after = LENGTH + length;
-    match read_body(&bytes[FRAME..after]) {
-        Checked::Accepted(opts) => Read::Record(Longhand { opts, after }),
-        Checked::Refused(f) => Read::Refused(f),
-    }
+    let opts = read_body(&bytes[FRAME..after])?;
+    Ok(Longhand { opts, after })
 }
 
 // To the front of `out`. Refusals 6, 15.
-pub fn write_longhand(opts: SuperOpts, out: &mut [u8]) -> Tested
+pub fn write_longhand(opts: SuperOpts, out: &mut [u8]) -> Result<(), Refusal>
     ensures { answer (tested result) out.new ≡ write_answer opts out.old }
 {
-    let record = opts.accepted();
-    let lacks = out.len() < RECORD;
-    let t = Tested::Fine
-        .then_refuse(!record, Refusal::NoRecord)
-        .then_refuse(lacks, Refusal::Longhand(BadLonghand::Short));
-    let Tested::Fine = t else {
-        return t;
-    };
+    refuse_if(!opts.accepted(), Refusal::NoRecord)?;
+    refuse_if(out.len() < RECORD, BadLonghand::Short)?;
     put_framed(out, KIND_1, &body(opts));
-    Tested::Fine
+    Ok(())
 }
 
-fn put_framed(out: &mut [u8], kind: u32, body: &[u8])
+fn put_framed(out: &mut [u8], kind: u16, body: &[u8])
     requires { (6 + length body.now ≤ length out.old) × (length body.now < 2 ^ 16) }
     ensures { out.new ≡ framed kind body.now ++ drop (6 + length body.now) out.old }
 {
-    put(out, 0, &bytes_4(2 + body.len() as u32));
-    put(out, LENGTH, &bytes_2(kind));
+    put(out, 0, &(2 + body.len() as u32).to_le_bytes());
+    put(out, LENGTH, &kind.to_le_bytes());
     put(out, FRAME, body);
 }

@@ -1,7 +1,8 @@
 -- The number and value of a call that takes a stored layout, and of each answer.
-use Rattle.std.specs.Prelude.{ℕ, ◌+◌, ◌*◌, cond, List, [], eqb, length, take, drop}
+use Rattle.std.specs.Prelude.{ℕ, ◌+◌, ◌*◌, cond, List, [], eqb, length, take, drop, Result}
+use Rattle.settings.specs.declared.refusal.Refusal.{Refusal}
 use Rattle.settings.specs.declared.super_opts.SuperOpts.{SuperOpts}
-use Rattle.settings.specs.Answers.{Answer, answer, if_done, number}
+use Rattle.settings.specs.Answers.{Answer, if_done, outcome}
 use Rattle.layouts.specs.declared.layout.Layout.{Layout}
 use Rattle.layouts.specs.declared.layout.Needs.{Needs}
 use Rattle.layouts.specs.declared.rows.Run.{Run}
@@ -10,13 +11,7 @@ use Rattle.layouts.specs.Margins.{cleared}
 use Rattle.layouts.specs.Answers.{needs_of, no_needs, run_of, no_run}
 use Rattle.stored.specs.Layout.{view_of}
 use Rattle.stored.specs.Refusals.{stored_no}
-use Rattle.lookups.specs.declared.ends.Ended.{Ended}
-use Rattle.lookups.specs.declared.ends.Ended.TheVariants.{End, Refused as EndRefused}
-use Rattle.lookups.specs.declared.ends.Needed.{Needed}
-use Rattle.lookups.specs.declared.ends.Needed.TheVariants.{Needs as Needing, Refused as NeedsRefused}
 use Rattle.lookups.specs.declared.rows.Plane.{Plane}
-use Rattle.lookups.specs.declared.rows.Planed.{Planed}
-use Rattle.lookups.specs.declared.rows.Planed.TheVariants.{At, Refused as PlaneRefused}
 use Rattle.lookups.specs.Refusals.{frame_no, row_no, level_plane_no}
 
 abbrev pub end_answer : SuperOpts → List ℕ → Answer ℕ
@@ -52,14 +47,11 @@ abbrev pub clear_answer : SuperOpts → List ℕ → List ℕ → Answer (List �
 clear_answer r s f = if_done (frame_no r s (length f)) (cleared (view_of r s) f) f
 
 -- ---- the answers
-abbrev pub ended : Ended → Answer ℕ
-ended (End n) = answer 0 n
-ended (EndRefused f) = answer (number f) 0
+abbrev pub ended : Result ℕ Refusal → Answer ℕ
+ended = outcome 0
 
-abbrev pub needed : Needed → Answer Needs
-needed (Needing n) = answer 0 n
-needed (NeedsRefused f) = answer (number f) no_needs
+abbrev pub needed : Result Needs Refusal → Answer Needs
+needed = outcome no_needs
 
-abbrev pub planed : Planed → Answer Plane
-planed (At p) = answer 0 p
-planed (PlaneRefused f) = answer (number f) no_level_plane
+abbrev pub planed : Result Plane Refusal → Answer Plane
+planed = outcome no_level_plane

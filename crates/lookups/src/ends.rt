@@ -8,21 +8,9 @@ ghost use Rattle.lookups.specs.Answers.{ended, end_answer, needed, needs_answer}
 use layouts::layout::Needs;
 use layouts::lent::{scratch_need, spill_need};
 use layouts::levels;
-use settings::refusal::{Refusal, Tested};
+use settings::refusal::Refusal;
 use settings::super_opts::SuperOpts;
 use stored::layout::{COUNT, PITCH, region_in, tested, view};
-
-#[derive(Clone, Copy)]
-pub enum Ended {
-    End(usize),
-    Refused(Refusal),
-}
-
-#[derive(Clone, Copy)]
-pub enum Needed {
-    Needs(Needs),
-    Refused(Refusal),
-}
 
 // Where the last level ends, of a layout that passed the test.
 pub(crate) fn end(opts: SuperOpts, layout: &[usize]) -> usize
@@ -38,27 +26,21 @@ pub(crate) fn end(opts: SuperOpts, layout: &[usize]) -> usize
 }
 
 // Refusals 6 and 32.
-pub fn written_end(opts: SuperOpts, layout: &[usize]) -> Ended
+pub fn written_end(opts: SuperOpts, layout: &[usize]) -> Result<usize, Refusal>
     ensures { ended result ≡ end_answer opts layout.now }
 {
-    match tested(opts, layout) {
-        Tested::Fine => Ended::End(end(opts, layout)),
-        Tested::Refused(f) => Ended::Refused(f),
-    }
+    tested(opts, layout)?;
+    Ok(end(opts, layout))
 }
 
 // Refusals 6 and 32.
-pub fn needs(opts: SuperOpts, layout: &[usize]) -> Needed
+pub fn needs(opts: SuperOpts, layout: &[usize]) -> Result<Needs, Refusal>
     ensures { needed result ≡ needs_answer opts layout.now }
 {
-    match tested(opts, layout) {
-        Tested::Fine => {
-            let q = view(opts, layout);
-            Needed::Needs(Needs {
-                spill: spill_need(q),
-                scratch: scratch_need(q),
-            })
-        }
-        Tested::Refused(f) => Needed::Refused(f),
-    }
+    tested(opts, layout)?;
+    let q = view(opts, layout);
+    Ok(Needs {
+        spill: spill_need(q),
+        scratch: scratch_need(q),
+    })
 }

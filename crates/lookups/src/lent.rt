@@ -6,7 +6,7 @@ ghost use Rattle.lookups.specs.Refusals.{stored_build_no};
 use crate::ends::end;
 use layouts::lent::lent_tested;
 use layouts::levels::{bad_pitch, width};
-use settings::refusal::{BadLent, Refusal, Tested};
+use settings::refusal::{BadLent, Refusal};
 use settings::super_opts::SuperOpts;
 use stored::layout::{tested, view};
 
@@ -19,16 +19,13 @@ pub fn build_tested(
     frame: usize,
     spill: usize,
     scratch: usize,
-) -> Tested
+) -> Result<(), Refusal>
     ensures { tested result ≡ stored_build_no opts layout.now src src_pitch frame spill scratch }
 {
-    let t = tested(opts, layout);
-    let Tested::Fine = t else {
-        return t;
-    };
+    tested(opts, layout)?;
     let q = view(opts, layout);
     if bad_pitch(src_pitch, width(q, 0)) {
-        return Tested::Refused(Refusal::Lent(BadLent::SourcePitch));
+        return Err(Refusal::Lent(BadLent::SourcePitch));
     }
     let end = end(opts, layout);
     lent_tested(q, end, src, src_pitch, frame, spill, scratch)

@@ -10,7 +10,7 @@ use crate::ends::end;
 use layouts::descent::Descent;
 use layouts::layout::Layout;
 use layouts::margins::clear_level;
-use settings::refusal::{BadLent, Refusal, Tested};
+use settings::refusal::{BadLent, Refusal};
 use settings::super_opts::SuperOpts;
 use stored::layout::{tested, view};
 
@@ -18,9 +18,7 @@ fn clear_levels(frame: &mut [u8], layout: Layout)
     requires { (layout_no layout ≡ 0) × (written_end layout ≤ length frame.old) }
     ensures { frame.new ≡ cleared layout frame.old }
 {
-    let opts = layout.opts;
-    let n = opts.naturals();
-    let levels = n.levels;
+    let levels = layout.opts.naturals().levels;
     let mut above = Descent::top(layout);
     for level in 1..levels {
         let at = above.next(layout, level - 1);
@@ -31,16 +29,13 @@ fn clear_levels(frame: &mut [u8], layout: Layout)
 }
 
 // Zeroes the margins of later levels that aren't fused. Refusals 6, 32 and 11.
-pub fn clear_margins(frame: &mut [u8], opts: SuperOpts, layout: &[usize]) -> Tested
+pub fn clear_margins(frame: &mut [u8], opts: SuperOpts, layout: &[usize]) -> Result<(), Refusal>
     ensures { answer (tested result) frame.new ≡ clear_answer opts layout.now frame.old }
 {
-    let t = tested(opts, layout);
-    let Tested::Fine = t else {
-        return t;
-    };
+    tested(opts, layout)?;
     if frame.len() < end(opts, layout) {
-        return Tested::Refused(Refusal::Lent(BadLent::Frame));
+        return Err(Refusal::Lent(BadLent::Frame));
     }
     clear_levels(frame, view(opts, layout));
-    Tested::Fine
+    Ok(())
 }

@@ -10,8 +10,8 @@ ghost use Rattle.lookups.specs.Answers.{place_answer, row_part, row_from, planed
 
 use crate::ends::end;
 use layouts::levels::stored;
-use layouts::rows::{Placed, hand_out, placed_at};
-use settings::refusal::{BadLent, Refusal, Tested};
+use layouts::rows::{Run, hand_out, placed_at};
+use settings::refusal::{BadLent, Refusal};
 use settings::super_opts::SuperOpts;
 use stored::layout::{COUNT, PITCH, region_in, tested, view};
 
@@ -24,12 +24,6 @@ pub struct Plane {
     pub pitch: usize,
 }
 
-#[derive(Clone, Copy)]
-pub enum Planed {
-    At(Plane),
-    Refused(Refusal),
-}
-
 // Of a layout that passed the test, in a frame of len bytes. Refusals 11 and 19.
 fn row_within(
     opts: SuperOpts,
@@ -38,15 +32,15 @@ fn row_within(
     level: u32,
     plane: usize,
     y: usize,
-) -> Placed
+) -> Result<Run, Refusal>
     requires { stored_no opts layout.now ≡ 0 }
     ensures { placed result ≡ place_answer opts layout.now len level plane y }
 {
     if len < end(opts, layout) {
-        return Placed::Refused(Refusal::Lent(BadLent::Frame));
+        return Err(Refusal::Lent(BadLent::Frame));
     }
     if layout[COUNT] <= level as usize {
-        return Placed::Refused(Refusal::NoRow);
+        return Err(Refusal::NoRow);
     }
     placed_at(
         region_in(layout, level),
@@ -65,13 +59,11 @@ pub fn row_place(
     level: u32,
     plane: usize,
     y: usize,
-) -> Placed
+) -> Result<Run, Refusal>
     ensures { placed result ≡ place_answer opts layout.now len level plane y }
 {
-    match tested(opts, layout) {
-        Tested::Fine => row_within(opts, layout, len, level, plane, y),
-        Tested::Refused(f) => Placed::Refused(f),
-    }
+    tested(opts, layout)?;
+    row_within(opts, layout, len, level, plane, y)
 }
 
 // What that row is refused with: 6, 32, 11 or 19.
@@ -82,13 +74,11 @@ pub fn row_tested(
     level: u32,
     plane: usize,
     y: usize,
-) -> Tested
+) -> Result<(), Refusal>
     ensures { tested result ≡ row_no opts layout.now len level plane y }
 {
-    match row_place(opts, layout, len, level, plane, y) {
-        Placed::At(_) => Tested::Fine,
-        Placed::Refused(f) => Tested::Refused(f),
-    }
+    row_place(opts, layout, len, level, plane, y)?;
+    Ok(())
 }
 
 // Row y of a plane of a level: a part of the frame, empty when refused.
@@ -107,21 +97,27 @@ pub fn row<'a>(
 }
 
 // Of a layout that passed the test, in a frame of len bytes. Refusals 11 and 19.
-fn plane_within(opts: SuperOpts, layout: &[usize], len: usize, level: u32, plane: usize) -> Planed
+fn plane_within(
+    opts: SuperOpts,
+    layout: &[usize],
+    len: usize,
+    level: u32,
+    plane: usize,
+) -> Result<Plane, Refusal>
     requires { stored_no opts layout.now ≡ 0 }
     ensures { planed result ≡ level_plane_answer opts layout.now len level plane }
 {
     if len < end(opts, layout) {
-        return Planed::Refused(Refusal::Lent(BadLent::Frame));
+        return Err(Refusal::Lent(BadLent::Frame));
     }
     if layout[COUNT] <= level as usize {
-        return Planed::Refused(Refusal::NoRow);
+        return Err(Refusal::NoRow);
     }
     if stored(view(opts, layout), level) <= plane {
-        return Planed::Refused(Refusal::NoRow);
+        return Err(Refusal::NoRow);
     }
     let r = region_in(layout, level);
-    Planed::At(Plane {
+    Ok(Plane {
         start: r.offset + plane * r.height * layout[PITCH],
         width: r.width,
         height: r.height,
@@ -136,11 +132,9 @@ pub fn level_plane(
     len: usize,
     level: u32,
     plane: usize,
-) -> Planed
+) -> Result<Plane, Refusal>
     ensures { planed result ≡ level_plane_answer opts layout.now len level plane }
 {
-    match tested(opts, layout) {
-        Tested::Fine => plane_within(opts, layout, len, level, plane),
-        Tested::Refused(f) => Planed::Refused(f),
-    }
+    tested(opts, layout)?;
+    plane_within(opts, layout, len, level, plane)
 }

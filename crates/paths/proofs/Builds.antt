@@ -17,8 +17,8 @@ use Rattle.settings.specs.Numbers.{is_nat}
 use Rattle.settings.proofs.Accepted.{is_nat_pos}
 use Rattle.filters.specs.declared.halving.ReduceFilter.{ReduceFilter}
 use Rattle.filters.specs.declared.halving.ReduceFilter.TheVariants.{Cubic}
-use Rattle.filters.specs.declared.halving.Chosen.{Chosen}
-use Rattle.filters.specs.declared.halving.Chosen.TheVariants.{Filter, NoFilter}
+use Rattle.std.specs.declared.option.Option.{Option}
+use Rattle.std.specs.declared.option.Option.TheVariants.{Some, None}
 use Rattle.filters.specs.Halve.{chosen}
 use Rattle.filters.specs.Refine.{upscale}
 use Rattle.filters.proofs.Tests.{below_or}
@@ -83,9 +83,9 @@ clear_same q l w c long zero' =
     ∙ steps_keep (λ d. d ≡ c) (λ y d. d) h c (λ y d lt e. e) refl
 
 -- the filter that the fused cubic stands for
-cubic_chosen : (z : ℤ) (f : ReduceFilter) → chosen z ≡ Filter f → is_nat z 4 ≡ true → Cubic ≡ f
+cubic_chosen : (z : ℤ) (f : ReduceFilter) → chosen z ≡ Some f → is_nat z 4 ≡ true → Cubic ≡ f
 unfolding chosen
-cubic_chosen z f e four = let is = ap chosen (is_nat_pos z 4 four) in let both : Filter Cubic ≡ Filter f = sym is ∙ e in cc
+cubic_chosen z f e four = let is = ap chosen (is_nat_pos z 4 four) in let both : Some Cubic ≡ Some f = sym is ∙ e in cc
 
 -- ---- a canvas of frame and spill whose fused levels have margins of zeros
 pub record Clean (q : Layout) (len long : ℕ) (c : List ℕ) : Type 0 where
@@ -164,14 +164,14 @@ module _ (q : Layout) {m sp len spill scratch : ℕ} (r : Ready q m sp len spill
     level_zeros f l some there c clean = rw (stored_yes l) (stored_zeros f l some there c clean)
 
     -- ---- all of them, and the build
-    halved_same : (k : Chosen) → chosen q.opts.scale_down ≡ k → (c : List ℕ) → Zeros c → halved_by true q src sp len k c ≡ halved_by false q src sp len k c
+    halved_same : (k : Option ReduceFilter) → chosen q.opts.scale_down ≡ k → (c : List ℕ) → Zeros c → halved_by true q src sp len k c ≡ halved_by false q src sp len k c
     unfolding halved_by
-    halved_same (Filter f) e c clean =
+    halved_same (Some f) e c clean =
         steps_alike Zeros (λ i. level_by true q src sp len f (i + 1)) (λ i. level_by false q src sp len f (i + 1)) (levels_of q - 1)
         (λ i d lt h. level_zeros f (i + 1) (omega arith) (omega arith) d h)
         (λ i d lt h. level_same f (cubic_chosen q.opts.scale_down f e) (i + 1) (omega arith) (omega arith) d h)
         c clean
-    halved_same NoFilter e c clean = refl
+    halved_same None e c clean = refl
 
     first_zeros : 1 ≤ levels_of q → (c : List ℕ) → Zeros c → Zeros (cond q.opts.full (copied q src sp c) c)
     first_zeros some c clean =
@@ -190,10 +190,10 @@ module _ (q : Layout) {m sp len spill scratch : ℕ} (r : Ready q m sp len spill
             ap (refined q) (halved_same (chosen q.opts.scale_down) refl (cond q.opts.full (copied q src sp c) c) (first_zeros some c clean))
 
     -- and the margins are zeros still
-    halved_zeros : (k : Chosen) (c : List ℕ) → Zeros c → Zeros (halved_by false q src sp len k c)
+    halved_zeros : (k : Option ReduceFilter) (c : List ℕ) → Zeros c → Zeros (halved_by false q src sp len k c)
     unfolding halved_by
-    halved_zeros (Filter f) c clean = steps_keep Zeros (λ i. level_by false q src sp len f (i + 1)) (levels_of q - 1) c (λ i d lt h. level_zeros f (i + 1) (omega arith) (omega arith) d h) clean
-    halved_zeros NoFilter c clean = clean
+    halved_zeros (Some f) c clean = steps_keep Zeros (λ i. level_by false q src sp len f (i + 1)) (levels_of q - 1) c (λ i d lt h. level_zeros f (i + 1) (omega arith) (omega arith) d h) clean
+    halved_zeros None c clean = clean
 
     refined_zeros : 1 ≤ levels_of q → (c : List ℕ) → Zeros c → Zeros (refined q c)
     refined_zeros some c clean =

@@ -14,8 +14,8 @@ use Rattle.settings.specs.Numbers.{is_nat}
 use Rattle.settings.specs.Answers.{tested}
 use Rattle.settings.proofs.Outcome.{Contract, both_ways, Promises}
 use Rattle.filters.specs.declared.halving.ReduceFilter.{ReduceFilter}
-use Rattle.filters.specs.declared.halving.Chosen.{Chosen}
-use Rattle.filters.specs.declared.halving.Chosen.TheVariants.{Filter, NoFilter}
+use Rattle.std.specs.declared.option.Option.{Option}
+use Rattle.std.specs.declared.option.Option.TheVariants.{Some, None}
 use Rattle.filters.specs.Halve.{chosen}
 use Rattle.filters.proofs.Tests.{below_or}
 use Rattle.layouts.specs.declared.layout.Layout.{Layout}
@@ -104,10 +104,10 @@ module _ (q : Layout) (src : List ℕ) (sp len : ℕ) (other : is_nat q.opts.sca
   unfolding level_by fused_at
   level_other f l c = rw other refl
 
-  halved_other : (k : Chosen) (c : List ℕ) → halved_by true q src sp len k c ≡ halved_by false q src sp len k c
+  halved_other : (k : Option ReduceFilter) (c : List ℕ) → halved_by true q src sp len k c ≡ halved_by false q src sp len k c
   unfolding halved_by
-  halved_other (Filter f) c = steps_alike (λ d. Unit) (λ i. level_by true q src sp len f (i + 1)) (λ i. level_by false q src sp len f (i + 1)) (levels_of q - 1) (λ i d lt u. tt) (λ i d lt u. level_other f (i + 1) d) c tt
-  halved_other NoFilter c = refl
+  halved_other (Some f) c = steps_alike (λ d. Unit) (λ i. level_by true q src sp len f (i + 1)) (λ i. level_by false q src sp len f (i + 1)) (levels_of q - 1) (λ i d lt u. tt) (λ i d lt u. level_other f (i + 1) d) c tt
+  halved_other None c = refl
 
 pub other_alike : (q : Layout) (src : List ℕ) (sp : ℕ) (F : List ℕ) → is_nat q.opts.scale_down 4 ≡ false → OneFrame q src sp F
 unfolding frame_by built_by

@@ -9,8 +9,8 @@ use lib.Dec.{leb, eqb}
 use borrow.Author.Tests.{eqb-false}
 use Rattle.settings.specs.Check.{pel_of}
 use Rattle.filters.specs.declared.halving.ReduceFilter.{ReduceFilter}
-use Rattle.filters.specs.declared.halving.Chosen.{Chosen}
-use Rattle.filters.specs.declared.halving.Chosen.TheVariants.{Filter, NoFilter}
+use Rattle.std.specs.declared.option.Option.{Option}
+use Rattle.std.specs.declared.option.Option.TheVariants.{Some, None}
 use Rattle.filters.specs.Halve.{chosen}
 use Rattle.filters.specs.Refine.{upscale}
 use Rattle.layouts.specs.declared.layout.Layout.{Layout}
@@ -52,10 +52,10 @@ module _ {R : List ℕ → List ℕ → Type 0} (q : Layout) (src src' : List �
   unfolding level_by
   level_kept f l L = either (fused_at q len l) L.by_fused (λ e. either (q.opts.full || leb 2 l) L.by_stored L.by_source)
 
-  pub halved_kept : ((f : ReduceFilter) (l : ℕ) → 1 ≤ l → l < levels_of q → Level R q src src' sp len f l) → (k : Chosen) → Respects R (halved q src sp len k) (halved q src' sp len k)
+  pub halved_kept : ((f : ReduceFilter) (l : ℕ) → 1 ≤ l → l < levels_of q → Level R q src src' sp len f l) → (k : Option ReduceFilter) → Respects R (halved q src sp len k) (halved q src' sp len k)
   unfolding halved_by
-  halved_kept later (Filter f) = turns _ _ (levels_of q - 1) (λ i lt. level_kept f (i + 1) (later f (i + 1) (omega arith) (omega arith)))
-  halved_kept later NoFilter = still
+  halved_kept later (Some f) = turns _ _ (levels_of q - 1) (λ i lt. level_kept f (i + 1) (later f (i + 1) (omega arith) (omega arith)))
+  halved_kept later None = still
 
   pub built_kept : Parts R q src src' sp len → Respects R (built q src sp len) (built q src' sp len)
   unfolding built_by

@@ -1,4 +1,5 @@
 -- A build, whole: what the refusals leave; level 0's rows and planes lie in the frame; the stages one after the other; and what is left. Assumes nothing.
+use Rattle.std.specs.Prelude.{Result, ⊤}
 use mathlib.Core.Path.{◌≡◌, refl, sym, ap, subst, ◌∙◌}
 use mathlib.Core.Bool.{Bool, true, false, cond, ◌&&◌}
 use mathlib.Core.List.{List, ◌++◌}
@@ -10,10 +11,10 @@ use lib.Dec.{ltb, eqb}
 use lib.ListN.{length, take, replicate}
 use lib.Seq.{take_at}
 use borrow.Author.Tests.{ltb-false, ne_eqb}
+use Rattle.settings.specs.declared.refusal.Refusal.{Refusal}
 use Rattle.settings.specs.declared.super_opts.SuperOpts.{SuperOpts}
 use Rattle.settings.specs.Numbers.{refuse, ◌then◌, to_nat}
 use Rattle.settings.specs.Check.{pel_of}
-use Rattle.settings.specs.declared.refusal.Tested.{Tested}
 use Rattle.settings.specs.Answers.{Answer, answer, tested}
 use Rattle.settings.proofs.Tests.{and_left, and_right}
 use Rattle.settings.proofs.Refusals.{then_first, then_rest, refuse_not}
@@ -194,12 +195,12 @@ pub lent_zeroed : (n k : ℕ) (l z : List ℕ) → z ≡ replicate k 0 → k ≡
 lent_zeroed n k l z e kept none = ap (answer 0) (e ∙ ap (λ (m : ℕ). replicate m 0) kept) ∙ given n (replicate (length l) 0) l none
 
 -- one outcome: the number, and what frame, spill and scratch are left as
-pub one_left : {r s : Tested} {F S X G T Y : List ℕ} {f t x : Answer (List ℕ)} → (answer (tested r) F ≡ f) × (answer (tested r) S ≡ t) × (answer (tested r) X ≡ x) → (answer (tested s) G ≡ f) × (answer (tested s) T ≡ t) × (answer (tested s) Y ≡ x) → ◌≡◌ {A = Tested × List ℕ × List ℕ × List ℕ} (r, F, S, X) (s, G, T, Y)
+pub one_left : {r s : Result ⊤ Refusal} {F S X G T Y : List ℕ} {f t x : Answer (List ℕ)} → (answer (tested r) F ≡ f) × (answer (tested r) S ≡ t) × (answer (tested r) X ≡ x) → (answer (tested s) G ≡ f) × (answer (tested s) T ≡ t) × (answer (tested s) Y ≡ x) → ◌≡◌ {A = Result ⊤ Refusal × List ℕ × List ℕ × List ℕ} (r, F, S, X) (s, G, T, Y)
 one_left {r} {s} {F} {S} {X} {G} {T} {Y} p q =
     let frame = determined left_known {a = (r, F)} {b = (s, G)} p.0 q.0 in
     let spill = determined left_known {a = (r, S)} {b = (s, T)} p.1 q.1 in
     let scratch = determined left_known {a = (r, X)} {b = (s, Y)} p.2 q.2 in
-    rw (ap (λ (a : Tested × List ℕ). a.0) frame, bytes frame, bytes spill, bytes scratch)
+    rw (ap (λ (a : Result ⊤ Refusal × List ℕ). a.0) frame, bytes frame, bytes spill, bytes scratch)
   where
-    bytes : {a b : Tested × List ℕ} → a ≡ b → a.1 ≡ b.1
-    bytes = ap (λ (a : Tested × List ℕ). a.1)
+    bytes : {a b : Result ⊤ Refusal × List ℕ} → a ≡ b → a.1 ≡ b.1
+    bytes = ap (λ (a : Result ⊤ Refusal × List ℕ). a.1)

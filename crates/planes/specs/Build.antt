@@ -1,12 +1,10 @@
 -- Document 01, "How a plane is built": the whole, in the document's order, with a switch for the fused path; then the document's own build, where it is on; last the number and value.
-use Rattle.std.specs.Prelude.{◌≡◌, ℕ, ◌+◌, ◌*◌, ◌-◌, Bool, true, cond, ◌&&◌, ◌||◌, List, ◌++◌, leb, ltb, eqb, length, take, replicate}
+use Rattle.std.specs.Prelude.{◌≡◌, ℕ, ◌+◌, ◌*◌, ◌-◌, Bool, true, cond, ◌&&◌, ◌||◌, List, ◌++◌, leb, ltb, eqb, length, take, replicate, Option, Some, None}
 use Rattle.settings.specs.declared.super_opts.SuperOpts.{SuperOpts}
 use Rattle.settings.specs.Numbers.{to_nat}
 use Rattle.settings.specs.Check.{pel_of}
 use Rattle.settings.specs.Answers.{Answer, answer, if_done}
 use Rattle.filters.specs.declared.halving.ReduceFilter.{ReduceFilter}
-use Rattle.filters.specs.declared.halving.Chosen.{Chosen}
-use Rattle.filters.specs.declared.halving.Chosen.TheVariants.{Filter, NoFilter}
 use Rattle.filters.specs.Halve.{chosen}
 use Rattle.filters.specs.Refine.{upscale}
 use Rattle.layouts.specs.declared.layout.Layout.{Layout}
@@ -37,9 +35,9 @@ level_by fuse q src sp len f l c =
     (cond (q.opts.full || leb 2 l) (from_stored f base q.pitch (region_at q l) c) (from_source f src sp q.pitch (region_at q l) c))
 
 -- "any other value leaves later levels unwritten"
-unfoldable pub halved_by : Bool → Layout → List ℕ → ℕ → ℕ → Chosen → List ℕ → List ℕ
-halved_by fuse q src sp len (Filter f) c = steps (λ i. level_by fuse q src sp len f (i + 1)) (levels_of q - 1) c
-halved_by fuse q src sp len NoFilter c = c
+unfoldable pub halved_by : Bool → Layout → List ℕ → ℕ → ℕ → Option ReduceFilter → List ℕ → List ℕ
+halved_by fuse q src sp len (Some f) c = steps (λ i. level_by fuse q src sp len f (i + 1)) (levels_of q - 1) c
+halved_by fuse q src sp len None c = c
 
 -- "Refining, after halving, if pel > 1, gpu < 2 and full."
 abbrev pub refines : Layout → Bool
@@ -62,7 +60,7 @@ frame_by fuse q src sp f = take (length f) (built_by fuse q src sp (length f) (f
 abbrev pub halve_level : Layout → List ℕ → ℕ → ℕ → ReduceFilter → ℕ → List ℕ → List ℕ
 halve_level = level_by true
 
-abbrev pub halved : Layout → List ℕ → ℕ → ℕ → Chosen → List ℕ → List ℕ
+abbrev pub halved : Layout → List ℕ → ℕ → ℕ → Option ReduceFilter → List ℕ → List ℕ
 halved = halved_by true
 
 abbrev pub built : Layout → List ℕ → ℕ → ℕ → List ℕ → List ℕ

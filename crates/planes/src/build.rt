@@ -17,7 +17,7 @@ use layouts::layout::Layout;
 use layouts::lent::spill_need;
 use layouts::levels::{height, width};
 use lookups::lent::build_tested;
-use settings::refusal::Tested;
+use settings::refusal::Refusal;
 use settings::super_opts::SuperOpts;
 use stored::layout::view;
 
@@ -26,8 +26,7 @@ fn copy_rows(frame: &mut [u8], layout: Layout, src: &[u8], src_pitch: usize)
     requires { (1 ≤ levels_of layout) × (Ready layout (length src.now) src_pitch (length frame.old) (spill_need layout) (scratch_need layout)) }
     ensures { frame.new ≡ cond layout.opts.full (copied layout src.now src_pitch frame.old) frame.old }
 {
-    let opts = layout.opts;
-    if !opts.full {
+    if !layout.opts.full {
         return;
     }
     let w = width(layout, 0);
@@ -69,9 +68,7 @@ fn build_levels(
     requires { Ready layout (length src.now) src_pitch (length frame.old) (length spill.old) (length scratch.old) }
     ensures { frame.new ++ spill.new ≡ built_by fuse layout src.now src_pitch (length frame.old) (frame.old ++ spill.old) }
 {
-    let opts = layout.opts;
-    let n = opts.naturals();
-    if n.levels == 0 {
+    if layout.opts.naturals().levels == 0 {
         return;
     }
     copy_rows(frame, layout, src, src_pitch);
@@ -108,10 +105,10 @@ pub fn build_plane_by(
     layout: &[usize],
     src: &[u8],
     src_pitch: usize,
-) -> Tested
+) -> Result<(), Refusal>
     ensures { LeavesBy fuse opts layout.now src.now src_pitch frame.old spill.old scratch.old (tested result) frame.new spill.new scratch.new }
 {
-    let t = build_tested(
+    build_tested(
         opts,
         layout,
         src.len(),
@@ -119,15 +116,12 @@ pub fn build_plane_by(
         frame.len(),
         spill.len(),
         scratch.len(),
-    );
-    let Tested::Fine = t else {
-        return t;
-    };
+    )?;
     let q = view(opts, layout);
     build_spilled(fuse, frame, spill, scratch, q, src, src_pitch);
     zero_row(spill);
     zero_row(scratch);
-    Tested::Fine
+    Ok(())
 }
 
 // Builds a plane's levels from the source plane, its rows src_pitch apart; what was lent for it holds zeros after. Refusals 6, 32, 9 to 13.
@@ -139,7 +133,7 @@ pub fn build_plane(
     layout: &[usize],
     src: &[u8],
     src_pitch: usize,
-) -> Tested
+) -> Result<(), Refusal>
     ensures { BuildLeaves opts layout.now src.now src_pitch frame.old spill.old scratch.old (tested result) frame.new spill.new scratch.new }
 {
     build_plane_by(true, frame, spill, scratch, opts, layout, src, src_pitch)

@@ -1,6 +1,5 @@
 // Later levels, each from the level before it or from the source plane: open-svpflow's `reduce`, and the walk over the levels.
-ghost use Rattle.std.specs.Prelude.{◌≡◌, ◌++◌, ◌-◌, ◌≤◌, ◌<◌, length};
-ghost use Rattle.filters.specs.declared.halving.Chosen.TheVariants.{Filter};
+ghost use Rattle.std.specs.Prelude.{◌≡◌, ◌++◌, ◌-◌, ◌≤◌, ◌<◌, length, Some};
 ghost use Rattle.filters.specs.Halve.{chosen};
 ghost use Rattle.layouts.specs.Layout.{levels_of, offset_at, region_at};
 ghost use Rattle.layouts.specs.Room.{Ready};
@@ -8,7 +7,7 @@ ghost use Rattle.planes.specs.Build.{level_by, halved_by};
 
 use builder::halving::{reduce_cubic, reduce_within};
 use builder::separate::reduce_separate;
-use filters::halving::{Chosen, ReduceFilter};
+use filters::halving::ReduceFilter;
 use layouts::descent::Descent;
 use layouts::layout::{Layout, Region};
 use layouts::margins::fuses;
@@ -29,13 +28,12 @@ fn reduce(
     requires { Ready layout (length src.now) src_pitch (length frame.old) (length spill.old) (length scratch.old) × (1 ≤ level) × (level < levels_of layout) × (base ≡ offset_at layout (level - 1)) × (target ≡ region_at layout level) }
     ensures { frame.new ++ spill.new ≡ level_by fuse layout src.now src_pitch (length frame.old) filter level (frame.old ++ spill.old) }
 {
-    let opts = layout.opts;
     let pitch = layout.pitch;
     if fuse & fuses(layout, level, base, target, frame.len()) {
         reduce_cubic(frame, scratch, base, pitch, target);
         return;
     }
-    if opts.full | (level >= 2) {
+    if layout.opts.full | (level >= 2) {
         reduce_within(filter, frame, scratch, base, pitch, target);
         return;
     }
@@ -53,11 +51,9 @@ fn reduce_each(
     src_pitch: usize,
 )
     requires { Ready layout (length src.now) src_pitch (length frame.old) (length spill.old) (length scratch.old) }
-    ensures { frame.new ++ spill.new ≡ halved_by fuse layout src.now src_pitch (length frame.old) (Filter filter) (frame.old ++ spill.old) }
+    ensures { frame.new ++ spill.new ≡ halved_by fuse layout src.now src_pitch (length frame.old) (Some filter) (frame.old ++ spill.old) }
 {
-    let opts = layout.opts;
-    let n = opts.naturals();
-    let levels = n.levels;
+    let levels = layout.opts.naturals().levels;
     let mut above = Descent::top(layout);
     for level in 1..levels {
         let at = above.next(layout, level - 1);
@@ -91,8 +87,7 @@ pub fn reduce_levels(
     requires { Ready layout (length src.now) src_pitch (length frame.old) (length spill.old) (length scratch.old) }
     ensures { frame.new ++ spill.new ≡ halved_by fuse layout src.now src_pitch (length frame.old) (chosen layout.opts.scale_down) (frame.old ++ spill.old) }
 {
-    let opts = layout.opts;
-    let Chosen::Filter(filter) = ReduceFilter::from_option(opts.scale_down) else {
+    let Some(filter) = ReduceFilter::from_option(layout.opts.scale_down) else {
         return;
     };
     reduce_each(fuse, filter, frame, spill, scratch, layout, src, src_pitch);

@@ -3,15 +3,12 @@
 // The answer to the build is followed by that of the parts: the number and, where that is 0, start, pitch and length of Y, U and V, the frame's length and the needs of spill and scratch, two words each, the high one first. Last, the row's place in a frame of that length: the number and, where that is 0, offset and length likewise.
 #![tactic(auto)]
 
-use frame_cases::{
-    earlier, long, put_bytes, put_long, put_number, put_tested, read_whole, record_of, too_long,
-    word,
-};
+use cases::{End, MOST_CASES, for_each_case, long, read_whole, record_of};
+use frame_cases::{Asked, Lent, part, put_long, put_number, put_tested, read_words};
 use frames::build::build_frame;
-use frames::parts::{Part, Parted, Parts, frame_parts, frame_row_place};
-use input::read_full;
-use layouts::rows::Placed;
-use settings::refusal::Tested;
+use frames::parts::{Part, Parts, frame_parts, frame_row_place};
+use layouts::rows::Run;
+use settings::refusal::Refusal;
 use std::io;
 
 // The largest: 1440x1080 with all its levels, and the scratch of the widest picture.
@@ -20,157 +17,69 @@ fn main(rt: HostRuntime) -> io::Result<()> {
     let mut frame = [0u8; 4_718_592];
     let mut spill = [0u8; 4_096];
     let mut scratch = [0u8; 262_656];
-    lend(&rt, &mut sources, &mut frame, &mut spill, &mut scratch)
-}
-
-// The arrays as slices.
-fn lend<R: Input + Print + Eprint>(
-    rt: &R,
-    sources: &mut [u8; 2_424_832],
-    frame: &mut [u8; 4_718_592],
-    spill: &mut [u8; 4_096],
-    scratch: &mut [u8; 262_656],
-) -> io::Result<()> {
-    answer_all(rt, sources, frame, spill, scratch)
-}
-
-fn answer_all<R: Input + Print + Eprint>(
-    rt: &R,
-    sources: &mut [u8],
-    frame: &mut [u8],
-    spill: &mut [u8],
-    scratch: &mut [u8],
-) -> io::Result<()> {
-    let mut cases: u32 = 0;
-    while cases < 4_000_000 {
-        if !answer_one(rt, sources, frame, spill, scratch)? {
-            return Ok(());
-        }
-        cases += 1;
-    }
-    Ok(())
-}
-
-// The parts are written from 0 on: of such ones the checker finds by itself that they are as long as they say.
-fn answer_one<R: Input + Print + Eprint>(
-    rt: &R,
-    sources: &mut [u8],
-    frame: &mut [u8],
-    spill: &mut [u8],
-    scratch: &mut [u8],
-) -> io::Result<bool> {
-    let mut head = [0u8; 116];
-    if read_full(rt, &mut head)? < 116 {
-        return Ok(false);
-    }
-    let all = together(&head);
-    let frames = word(&head, 19) as usize;
-    let spills = word(&head, 20) as usize;
-    let scratches = word(&head, 21) as usize;
-    if sources.len() < all {
-        return too_long(rt);
-    }
-    if frame.len() < frames {
-        return too_long(rt);
-    }
-    if spill.len() < spills {
-        return too_long(rt);
-    }
-    if scratch.len() < scratches {
-        return too_long(rt);
-    }
-    answer(
-        rt,
-        &head,
-        &mut sources[0..all],
-        &mut frame[0..frames],
-        &mut spill[0..spills],
-        &mut scratch[0..scratches],
-    )
-}
-
-// The three sources, one after the other.
-fn together(head: &[u8; 116]) -> usize {
-    word(head, 16) as usize + word(head, 17) as usize + word(head, 18) as usize
-}
-
-fn answer<R: Input + Print>(
-    rt: &R,
-    head: &[u8; 116],
-    sources: &mut [u8],
-    frame: &mut [u8],
-    spill: &mut [u8],
-    scratch: &mut [u8],
-) -> io::Result<bool> {
-    if !read_whole(rt, sources)? {
-        return Ok(false);
-    }
-    let made = word(head, 23) != 0;
-    if !earlier(rt, frame, spill, scratch, made, word(head, 24))? {
-        return Ok(false);
-    }
-    answer_frame(rt, head, sources, frame, spill, scratch)
+    for_each_case(&rt, MOST_CASES, || {
+        answer(&rt, &mut sources, &mut frame, &mut spill, &mut scratch)
+    })
 }
 
 // Each source begins where the one before ends; the sources are as long as the three together.
-fn answer_frame<R: Print>(
+fn answer<R: Input + Print>(
     rt: &R,
-    head: &[u8; 116],
-    sources: &[u8],
+    sources: &mut [u8],
     frame: &mut [u8],
     spill: &mut [u8],
     scratch: &mut [u8],
-) -> io::Result<bool> {
-    let ys = word(head, 16) as usize;
-    let us = word(head, 17) as usize;
-    if sources.len() < ys + us {
-        return Ok(false);
-    }
-    let y = &sources[0..ys];
-    let u = &sources[ys..ys + us];
-    let v = &sources[ys + us..];
-    put_tested(rt, build(head, y, u, v, frame, spill, scratch))?;
-    put_bytes(rt, frame, spill, scratch, word(head, 22) != 0)?;
-    put_parted(rt, frame_parts(record_of(head)))?;
-    put_placed(rt, place(head, frame.len()))?;
-    Ok(true)
+) -> Result<(), End> {
+    let words = read_words::<R, 29>(rt)?;
+    let asked = Asked::of(&words[19..]);
+    let [ys, us, vs] = [words[16] as usize, words[17] as usize, words[18] as usize];
+    let sources = part(sources, ys + us + vs)?;
+    let mut lent = Lent::of(asked, frame, spill, scratch)?;
+    read_whole(rt, sources)?;
+    lent.earlier(rt, asked)?;
+    let (y, others) = sources.split_at(ys);
+    let (u, v) = others.split_at(us);
+    put_tested(rt, build(&words, y, u, v, &mut lent))?;
+    lent.put(rt, asked)?;
+    put_parted(rt, frame_parts(record_of(&words)))?;
+    Ok(put_placed(rt, place(&words, lent.frame.len()))?)
 }
 
 fn build(
-    head: &[u8; 116],
+    words: &[u32; 29],
     y: &[u8],
     u: &[u8],
     v: &[u8],
-    frame: &mut [u8],
-    spill: &mut [u8],
-    scratch: &mut [u8],
-) -> Tested {
-    let opts = record_of(head);
-    let y_pitch = long(head, 10);
-    let u_pitch = long(head, 12);
-    let v_pitch = long(head, 14);
+    lent: &mut Lent<'_>,
+) -> Result<(), Refusal> {
+    let opts = record_of(words);
+    let y_pitch = long(words[10], words[11]);
+    let u_pitch = long(words[12], words[13]);
+    let v_pitch = long(words[14], words[15]);
     build_frame(
-        frame, spill, scratch, opts, y, y_pitch, u, u_pitch, v, v_pitch,
-    )
-}
-
-fn place(head: &[u8; 116], len: usize) -> Placed {
-    let plane = word(head, 27) as usize;
-    let y = word(head, 28) as usize;
-    frame_row_place(
-        record_of(head),
-        len,
-        word(head, 25),
-        word(head, 26),
-        plane,
+        lent.frame,
+        lent.spill,
+        lent.scratch,
+        opts,
         y,
+        y_pitch,
+        u,
+        u_pitch,
+        v,
+        v_pitch,
     )
 }
 
-fn put_parted<R: Print>(rt: &R, p: Parted) -> io::Result<()> {
+fn place(words: &[u32; 29], len: usize) -> Result<Run, Refusal> {
+    let plane = words[27] as usize;
+    let y = words[28] as usize;
+    frame_row_place(record_of(words), len, words[25], words[26], plane, y)
+}
+
+fn put_parted<R: Print>(rt: &R, p: Result<Parts, Refusal>) -> io::Result<()> {
     match p {
-        Parted::Parts(parts) => put_parts(rt, parts),
-        Parted::Refused(f) => put_number(rt, f.number()),
+        Ok(parts) => put_parts(rt, parts),
+        Err(f) => put_number(rt, f.number()),
     }
 }
 
@@ -190,13 +99,13 @@ fn put_part<R: Print>(rt: &R, p: Part) -> io::Result<()> {
     put_long(rt, p.length)
 }
 
-fn put_placed<R: Print>(rt: &R, p: Placed) -> io::Result<()> {
+fn put_placed<R: Print>(rt: &R, p: Result<Run, Refusal>) -> io::Result<()> {
     match p {
-        Placed::At(run) => {
+        Ok(run) => {
             put_number(rt, 0)?;
             put_long(rt, run.offset)?;
             put_long(rt, run.length)
         }
-        Placed::Refused(f) => put_number(rt, f.number()),
+        Err(f) => put_number(rt, f.number()),
     }
 }

@@ -4,170 +4,92 @@
 // Out: the number of the check (of a record: 0 or 6), the ten values of the record, the number and the two halves of its word, the number and value of its super height, and those of its super width.
 #![tactic(auto)]
 
-ghost use Rattle.std.specs.Prelude.{◌<◌};
-
-use hex_lines::{bool_at, int_at, put_bool, put_int, put_word, word_at};
-use input::read_full;
+use cases::{End, MOST_CASES, for_each_case, halves, record_of};
+use hex_lines::{read_line, write_line};
 use settings::refusal::Refusal;
-use settings::super_opts::{Checked, OptBool, OptInt, Packed, Settings, Sized, SuperOpts};
+use settings::super_opts::{Settings, SuperOpts};
 use std::io;
 
 const RECORD: u32 = 256;
 
 fn main(rt: HostRuntime) -> io::Result<()> {
-    let mut lines: u32 = 0;
-    while lines < 4_000_000 {
-        if !answer_one(&rt)? {
-            return Ok(());
-        }
-        lines += 1;
-    }
-    Ok(())
+    for_each_case(&rt, MOST_CASES, || answer(&rt))
 }
 
-fn answer_one<R: Input + Print>(rt: &R) -> io::Result<bool> {
-    let mut case = [0u8; 99];
-    if read_full(rt, &mut case)? < 99 {
-        return Ok(false);
-    }
-    let mut out = [b' '; 162];
-    answer(&case, &mut out);
-    out[161] = b'\n';
-    write_line(rt, &out)?;
-    Ok(true)
-}
-
-fn write_line<R: Print>(rt: &R, out: &[u8; 162]) -> io::Result<()> {
-    rt.write_all(out)
-}
-
-fn answer(case: &[u8; 99], out: &mut [u8; 162]) {
-    let checked = if word_at(case, 0) == RECORD {
-        tested(record_at(case))
+fn answer<R: Input + Print>(rt: &R) -> Result<(), End> {
+    let words = read_line::<R, 11>(rt)?;
+    let given = words[0];
+    let record = record_of(&words[1..]);
+    let checked = if given == RECORD {
+        tested(record)
     } else {
-        SuperOpts::from_opt(settings_at(case), int_at(case, 9), int_at(case, 10))
+        SuperOpts::from_opt(settings_of(given, record), record.width, record.height)
     };
-    match checked {
-        Checked::Accepted(r) => put_all(out, 0, r),
-        Checked::Refused(f) => put_all(out, f.number(), nothing()),
-    }
+    let words = match checked {
+        Ok(r) => words_of(0, r),
+        Err(f) => words_of(f.number(), SuperOpts::default()),
+    };
+    Ok(write_line(rt, words)?)
 }
 
-fn tested(r: SuperOpts) -> Checked {
+fn tested(r: SuperOpts) -> Result<SuperOpts, Refusal> {
     if r.accepted() {
-        return Checked::Accepted(r);
+        return Ok(r);
     }
-    Checked::Refused(Refusal::NoRecord)
+    Err(Refusal::NoRecord)
 }
 
-fn nothing() -> SuperOpts {
-    SuperOpts {
-        pel: 0,
-        gpu: 0,
-        scale_down: 0,
-        scale_up: 0,
-        full: false,
-        rc: false,
-        lean: false,
-        levels: 0,
-        width: 0,
-        height: 0,
-    }
-}
-
-fn opt_int(case: &[u8; 99], given: bool, k: usize) -> OptInt
-    requires { k < 11 }
-{
-    if given {
-        return OptInt::Given(int_at(case, k));
-    }
-    OptInt::Absent
-}
-
-fn opt_bool(case: &[u8; 99], given: bool, k: usize) -> OptBool
-    requires { k < 11 }
-{
-    if given {
-        return OptBool::Given(bool_at(case, k));
-    }
-    OptBool::Absent
-}
-
-fn settings_at(case: &[u8; 99]) -> Settings {
-    let has = word_at(case, 0);
+fn settings_of(given: u32, r: SuperOpts) -> Settings {
     Settings {
-        pel: opt_int(case, has % 2 == 1, 1),
-        gpu: opt_int(case, has / 2 % 2 == 1, 2),
-        down: opt_int(case, has / 4 % 2 == 1, 3),
-        up: opt_int(case, has / 8 % 2 == 1, 4),
-        full: opt_bool(case, has / 16 % 2 == 1, 5),
-        rc: opt_bool(case, has / 32 % 2 == 1, 6),
-        lean: opt_bool(case, has / 64 % 2 == 1, 7),
+        pel: (given % 2 == 1).then_some(r.pel),
+        gpu: (given / 2 % 2 == 1).then_some(r.gpu),
+        down: (given / 4 % 2 == 1).then_some(r.scale_down),
+        up: (given / 8 % 2 == 1).then_some(r.scale_up),
+        full: (given / 16 % 2 == 1).then_some(r.full),
+        rc: (given / 32 % 2 == 1).then_some(r.rc),
+        lean: (given / 64 % 2 == 1).then_some(r.lean),
     }
 }
 
-fn record_at(case: &[u8; 99]) -> SuperOpts {
-    SuperOpts {
-        pel: int_at(case, 1),
-        gpu: int_at(case, 2),
-        scale_down: int_at(case, 3),
-        scale_up: int_at(case, 4),
-        full: bool_at(case, 5),
-        rc: bool_at(case, 6),
-        lean: bool_at(case, 7),
-        levels: int_at(case, 8),
-        width: int_at(case, 9),
-        height: int_at(case, 10),
-    }
+fn words_of(number: u32, r: SuperOpts) -> [u32; 18] {
+    let [packing, high, low] = packed(r.pack_data());
+    let [above, height] = sized(r.super_height());
+    let [aside, width] = sized(r.super_width());
+    [
+        number,
+        r.pel.cast_unsigned(),
+        r.gpu.cast_unsigned(),
+        r.scale_down.cast_unsigned(),
+        r.scale_up.cast_unsigned(),
+        u32::from(r.full),
+        u32::from(r.rc),
+        u32::from(r.lean),
+        r.levels.cast_unsigned(),
+        r.width.cast_unsigned(),
+        r.height.cast_unsigned(),
+        packing,
+        high,
+        low,
+        above,
+        height,
+        aside,
+        width,
+    ]
 }
 
-fn put_all(out: &mut [u8; 162], number: u32, r: SuperOpts) {
-    put_word(out, 0, number);
-    put_record(out, r);
-    put_packed(out, r.pack_data());
-    put_sized(out, 14, r.super_height());
-    put_sized(out, 16, r.super_width());
-}
-
-fn put_record(out: &mut [u8; 162], r: SuperOpts) {
-    put_int(out, 1, r.pel);
-    put_int(out, 2, r.gpu);
-    put_int(out, 3, r.scale_down);
-    put_int(out, 4, r.scale_up);
-    put_bool(out, 5, r.full);
-    put_bool(out, 6, r.rc);
-    put_bool(out, 7, r.lean);
-    put_int(out, 8, r.levels);
-    put_int(out, 9, r.width);
-    put_int(out, 10, r.height);
-}
-
-fn put_packed(out: &mut [u8; 162], p: Packed) {
+fn packed(p: Result<u64, Refusal>) -> [u32; 3] {
     match p {
-        Packed::Word(w) => {
-            put_word(out, 11, 0);
-            put_word(out, 12, (w / 0x1_0000_0000) as u32);
-            put_word(out, 13, (w % 0x1_0000_0000) as u32);
+        Ok(w) => {
+            let [high, low] = halves(w);
+            [0, high, low]
         }
-        Packed::Refused(f) => {
-            put_word(out, 11, f.number());
-            put_word(out, 12, 0);
-            put_word(out, 13, 0);
-        }
+        Err(f) => [f.number(), 0, 0],
     }
 }
 
-fn put_sized(out: &mut [u8; 162], k: usize, s: Sized)
-    requires { k < 17 }
-{
+fn sized(s: Result<i32, Refusal>) -> [u32; 2] {
     match s {
-        Sized::Size(n) => {
-            put_word(out, k, 0);
-            put_int(out, k + 1, n);
-        }
-        Sized::Refused(f) => {
-            put_word(out, k, f.number());
-            put_word(out, k + 1, 0);
-        }
+        Ok(n) => [0, n.cast_unsigned()],
+        Err(f) => [f.number(), 0],
     }
 }

@@ -1,5 +1,6 @@
 -- Accepted records: what acceptance says of each field, and that it holds exactly of the records that the check can return.
 -- First `fine`, what the test is made of; number 6; then `sound`, what the numbers 1 to 5 leave; bounds of the fields; and last `accepted_exact`. Assumes nothing.
+use Rattle.std.specs.Prelude.{Option, Some, None, unwrap_or}
 use mathlib.Core.Path.{◌≡◌, refl, sym, ap, ◌∙◌, subst}
 use mathlib.Core.Logic.{◌↔◌, ⊎_elim}
 use mathlib.Core.Bool.{Bool, true, false, cond, not, ◌&&◌, ◌||◌}
@@ -8,15 +9,12 @@ use native.Mathlib.Omega.{arith}
 use lib.Dec.{eqb, leb}
 use lib.IntN.{ℤ, pos, negsuc}
 use borrow.Author.Tests.{eqb-true, eq-eqb, leb-true, lt-ltb, not-false}
-use Rattle.settings.specs.declared.super_opts.OptInt.{OptInt}
-use Rattle.settings.specs.declared.super_opts.OptInt.TheVariants.{Given as GivenInt, Absent as NoInt}
-use Rattle.settings.specs.declared.super_opts.OptBool.TheVariants.{Given as GivenBool}
 use Rattle.settings.specs.declared.super_opts.Settings.{Settings}
 use Rattle.settings.specs.declared.super_opts.SuperOpts.{SuperOpts}
 use Rattle.settings.specs.Limits.{most_side, most_levels}
 use Rattle.settings.specs.Numbers.{is_nat, to_nat, is_i32, refuse, ◌then◌}
 use Rattle.settings.specs.Sizes.{auto_levels}
-use Rattle.settings.specs.Check.{int_or, settled, is_pel, is_gpu, no_finest, bad_lean, is_side, settings_no, pel_of, luma_w, luma_h, level_count, accepted, record_no, opt_i32, SettingsI32, RecordI32}
+use Rattle.settings.specs.Check.{settled, is_pel, is_gpu, no_finest, bad_lean, is_side, settings_no, pel_of, luma_w, luma_h, level_count, accepted, record_no, opt_i32, SettingsI32, RecordI32}
 use Rattle.settings.specs.Inner.{accepted_but_levels}
 use Rattle.settings.specs.Answers.{Answer, answer, if_done, no_record, check_answer, Returns}
 use Rattle.settings.proofs.Tests.{and_left, and_right, and_yes, or_cases, or_false_left, or_false_right}
@@ -168,13 +166,13 @@ sizes r z n e size = ap (answer 0) size ∙ given (record_no r) (pos n) (pos 0) 
 abbrev pub spelled : SuperOpts → Settings
 spelled r =
     record {
-      pel = GivenInt r.pel;
-      gpu = GivenInt r.gpu;
-      down = GivenInt r.scale_down;
-      up = GivenInt r.scale_up;
-      full = GivenBool r.full;
-      rc = GivenBool r.rc;
-      lean = GivenBool r.lean;
+      pel = Some r.pel;
+      gpu = Some r.gpu;
+      down = Some r.scale_down;
+      up = Some r.scale_up;
+      full = Some r.full;
+      rc = Some r.rc;
+      lean = Some r.lean;
     }
 
 up_held : (g : Bool) (z : ℤ) → (g || is_nat z 0) ≡ true → cond g z (pos 0) ≡ z
@@ -195,11 +193,11 @@ up_zero false z = refl
 
 settled_fine : (s : Settings) (w h : ℤ) → settings_no (settled s w h) ≡ 0 → Fine (settled s w h)
 unfolding settled
-settled_fine s w h e = record { none = e; up = up_zero (is_nat (int_or s.gpu (pos 1)) 0) (int_or s.up (pos 2)); levels = refl }
+settled_fine s w h e = record { none = e; up = up_zero (is_nat (unwrap_or s.gpu (pos 1)) 0) (unwrap_or s.up (pos 2)); levels = refl }
 
-int_fits : (o : OptInt) (d : ℤ) → opt_i32 o ≡ true → is_i32 d ≡ true → is_i32 (int_or o d) ≡ true
-int_fits (GivenInt z) d e f = e
-int_fits NoInt d e f = f
+int_fits : (o : Option ℤ) (d : ℤ) → opt_i32 o ≡ true → is_i32 d ≡ true → is_i32 (unwrap_or o d) ≡ true
+int_fits (Some z) d e f = e
+int_fits None d e f = f
 
 cond_fits : (t : Bool) (z : ℤ) → is_i32 z ≡ true → is_i32 (cond t z (pos 0)) ≡ true
 cond_fits true z e = e
@@ -212,7 +210,7 @@ settled_fits s w h f fw fh few =
       pel = int_fits s.pel (pos 2) f.pel refl;
       gpu = int_fits s.gpu (pos 1) f.gpu refl;
       down = int_fits s.down (pos 4) f.down refl;
-      up = cond_fits (is_nat (int_or s.gpu (pos 1)) 0) (int_or s.up (pos 2)) (int_fits s.up (pos 2) f.up refl);
+      up = cond_fits (is_nat (unwrap_or s.gpu (pos 1)) 0) (unwrap_or s.up (pos 2)) (int_fits s.up (pos 2) f.up refl);
       levels = lt-ltb (auto_levels (to_nat w) (to_nat h)) (2 ^ 31) (omega arith);
       width = fw;
       height = fh;

@@ -1,10 +1,9 @@
 -- Document 01, "Checked by hand": its entries on reducing, levels and the default word, computed. Assumes nothing.
+use Rattle.std.specs.Prelude.{None}
 use mathlib.Core.Path.{◌≡◌, refl}
 use mathlib.Core.List.{List, [], ◌∷◌}
 use Prim.Native.Nat.{ℕ}
 use lib.IntN.{pos}
-use Rattle.settings.specs.declared.super_opts.OptInt.TheVariants.{Absent as NoInt}
-use Rattle.settings.specs.declared.super_opts.OptBool.TheVariants.{Absent as NoBool}
 use Rattle.settings.specs.declared.super_opts.Settings.{Settings}
 use Rattle.settings.specs.Sizes.{reduced, levels_in, auto_levels}
 use Rattle.settings.specs.Check.{settled, settings_no, accepted}
@@ -12,7 +11,7 @@ use Rattle.settings.specs.Word.{word_of}
 use Rattle.settings.specs.Answers.{check_answer, pack_answer}
 
 defaults : Settings
-defaults = record { pel = NoInt; gpu = NoInt; down = NoInt; up = NoInt; full = NoBool; rc = NoBool; lean = NoBool }
+defaults = record { pel = None; gpu = None; down = None; up = None; full = None; rc = None; lean = None }
 
 pub computed : List ℕ
 unfolding reduced levels_in settled settings_no accepted word_of defaults

@@ -1,5 +1,8 @@
 -- Super heights: sums of reduced heights, and that a height fits. Assumes nothing.
-use mathlib.Core.Path.{◌≡◌, refl, ap, ◌∙◌}
+use Rattle.std.specs.Int.{div_ceil}
+use Rattle.std.proofs.Math.Nat.{div-eq_of_lt-le}
+use Rattle.std.proofs.lemmas.Grind.{div_ceil_times}
+use mathlib.Core.Path.{◌≡◌, refl, sym, ap, ◌∙◌}
 use Prim.Native.Nat.{ℕ, zero, suc, ◌+◌, ◌*◌, ◌-◌, ◌≤◌}
 use native.Mathlib.Nat.{le_trans, mul-le-mul_left, mul-le-mul_right, suc-mul, div-le_self}
 use native.Mathlib.Numerals.{add-one}
@@ -49,6 +52,10 @@ heights_small h n p q = le_trans (heights_le h n) (prod_le most_levels most_side
 
 pub upward_le : (n d : ℕ) → upward n d ≤ n + d - 1
 upward_le n d = div-le_self (n + d - 1) d
+
+-- the library's quotient rounded up
+pub upward_ceil : (n d : ℕ) → 1 ≤ d → div_ceil n d ≡ upward n d
+upward_ceil n d h = let b = div_ceil_times n d h in let c = div_ceil n d in sym (div-eq_of_lt-le {k = c} d {m = n + d - 1} (omega (arith, b.0, b.1)) (omega (arith, suc-mul c d, b.0, b.1)))
 
 pub area_small : (w h : ℕ) → w ≤ most_side → h ≤ most_side → w * h ≤ most_side * most_side
 area_small w h p q = prod_le most_side most_side p q

@@ -1,11 +1,11 @@
 -- A signed local holds bits. What a test on them says of the integer; and two's complement. Assumes nothing.
 use mathlib.Core.Path.{◌≡◌, refl, sym, ap, ◌∙◌}
 use mathlib.Core.Bool.{Bool, true, false, cond}
-use Prim.Native.Nat.{ℕ, zero, suc, ◌-◌, ◌<◌, ◌^◌}
+use Prim.Native.Nat.{ℕ, ◌-◌, ◌<◌, ◌^◌}
 use native.Mathlib.Omega.{arith}
 use lib.Dec.{T, eqb, ltb}
-use lib.IntN.{ℤ, pos, negsuc, nat_abs, ◌-ℤ◌}
-use lib.Signed.{lt_z, non_neg, mag}
+use lib.IntN.{ℤ, pos, negsuc, nat_abs}
+use lib.Signed.{lt_z, non_neg}
 use borrow.Author.Tests.{eq-eqb, ne_eqb, eqb-true, eqb-false, ltb-true, ltb-false, lt-ltb, le-ltb}
 use mir.Syntax.{w32}
 use mir.Val.{Fits, SFits, of_z, to_z}
@@ -55,18 +55,6 @@ casts (negsuc n) fit e = absurd (yes_no e)
 pub kept : (z : ℤ) → lt_z z (pos 0) ≡ false → nat_abs z ≡ to_nat z
 kept (pos n) e = refl
 kept (negsuc n) e = cc
-
--- ---- minus one less an integer: its bits turned over
-pub turned_pos : (n : ℕ) → negsuc 0 -ℤ pos n ≡ negsuc n
-turned_pos zero = refl
-turned_pos (suc n) = ap negsuc (omega arith)
-
-pub turned_neg : (z : ℤ) → lt_z z (pos 0) ≡ true → negsuc 0 -ℤ z ≡ pos (mag z)
-turned_neg (pos n) e = absurd (never n (ltb-true n 0 e))
-turned_neg (negsuc n) e = rw (le-ltb (suc n) 1 (omega arith)) (ap pos (omega arith))
-
-pub mag_fits : (z : ℤ) → SFits w32 z → SFits w32 (pos (mag z))
-mag_fits z fit = record { sfits = fit.sfits }
 
 -- ---- two's complement, there and back
 pub of_bits_back : (z : ℤ) → is_i32 z ≡ true → of_bits (bits_of z) ≡ z

@@ -1,11 +1,11 @@
 -- Answers and their numbers: a refusal's number is not 0; what a call gives by its number; and an answer is known by its number and value. Assumes nothing.
+use Rattle.std.specs.Prelude.{Result, Ok, Err, ⊤}
 use mathlib.Core.Path.{◌≡◌, refl, sym, ap, ◌∙◌}
 use mathlib.Core.Bool.{false, cond}
 use Prim.Native.Nat.{ℕ, zero, suc}
 use native.Mathlib.Omega.{arith}
 use borrow.Author.Tests.{ne_eqb}
 use lib.Dec.{eqb}
-use lib.IntN.{pos}
 use Rattle.settings.specs.declared.refusal.Refusal.{Refusal}
 use Rattle.settings.specs.declared.refusal.Refusal.TheVariants.{Setting, NoRecord, Layout, Lent, Levels, Longhand, NoRow, Word as BadCode, Planes}
 use Rattle.settings.specs.declared.refusal.BadSetting.TheVariants.{Pel, Gpu, Finest, Lean, Side}
@@ -14,18 +14,8 @@ use Rattle.settings.specs.declared.refusal.BadLent.TheVariants.{SourcePitch, Sou
 use Rattle.settings.specs.declared.refusal.BadLonghand.TheVariants.{Short, Length, Contents}
 use Rattle.settings.specs.declared.refusal.BadWord.TheVariants.{NoCode, Halving, Upscale}
 use Rattle.settings.specs.declared.refusal.BadPlanes.TheVariants.{Side as ShortSide, Full as NotFull}
-use Rattle.settings.specs.declared.refusal.Tested.{Tested}
-use Rattle.settings.specs.declared.refusal.Tested.TheVariants.{Fine, Refused as TestRefused}
-use Rattle.settings.specs.declared.super_opts.Checked.{Checked}
-use Rattle.settings.specs.declared.super_opts.Checked.TheVariants.{Accepted, Refused as CheckRefused}
-use Rattle.settings.specs.declared.super_opts.Packed.{Packed}
-use Rattle.settings.specs.declared.super_opts.Packed.TheVariants.{Word, Refused as PackRefused}
-use Rattle.settings.specs.declared.super_opts.Sized.{Sized}
-use Rattle.settings.specs.declared.super_opts.Sized.TheVariants.{Size, Refused as SizeRefused}
-use Rattle.settings.specs.declared.word.Told.{Told}
-use Rattle.settings.specs.declared.word.Told.TheVariants.{Tells, Refused as ReadRefused}
 use Rattle.settings.specs.Numbers.{◌then◌}
-use Rattle.settings.specs.Answers.{Answer, answer, if_done, number, tested, checked, packed, sized, told, no_record, no_description}
+use Rattle.settings.specs.Answers.{Answer, answer, if_done, number, tested, outcome}
 
 -- ---- a refusal's number tells which refusal it is, and is not 0
 -- the refusal of a number
@@ -105,51 +95,23 @@ value_refused {B} b none e some = ap (λ (x : Answer B). x.value) e ∙ rw (ne_e
 pub known_by : {A B : Type 0} (f : A → B) (g : B → A) → ((a : A) → g (f a) ≡ a) → (a b : A) → f a ≡ f b → a ≡ b
 known_by f g back a b e = sym (back a) ∙ ap g e ∙ back b
 
-abbrev tested_from : ℕ → Tested
-tested_from n = cond (eqb n 0) Fine (TestRefused (refusal_of n))
+abbrev tested_from : ℕ → Result ⊤ Refusal
+tested_from n = cond (eqb n 0) (Ok tt) (Err (refusal_of n))
 
-tested_back : (a : Tested) → tested_from (tested a) ≡ a
-tested_back Fine = refl
-tested_back (TestRefused f) = rw (number_some f, number_back f)
+tested_back : (a : Result ⊤ Refusal) → tested_from (tested a) ≡ a
+tested_back (Ok tt) = refl
+tested_back (Err f) = rw (number_some f, number_back f)
 
-pub tested_known : (a b : Tested) → tested a ≡ tested b → a ≡ b
+pub tested_known : (a b : Result ⊤ Refusal) → tested a ≡ tested b → a ≡ b
 tested_known = known_by tested tested_from tested_back
 
--- an answer of two cases: the value given, or the refusal
-module _ {A E : Type 0} (value : A → E) (refusal : Refusal → E) where
-  abbrev pub from : Answer A → E
-  from a = cond (eqb a.no 0) (value a.value) (refusal (refusal_of a.no))
+module _ {A : Type 0} (none : A) where
+  abbrev outcome_from : Answer A → Result A Refusal
+  outcome_from a = cond (eqb a.no 0) (Ok a.value) (Err (refusal_of a.no))
 
-  pub value_back : (a : A) → from (answer 0 a) ≡ value a
-  value_back a = refl
+  outcome_back : (a : Result A Refusal) → outcome_from (outcome none a) ≡ a
+  outcome_back (Ok x) = refl
+  outcome_back (Err f) = rw (number_some f, number_back f)
 
-  pub refusal_back : (f : Refusal) (none : A) → from (answer (number f) none) ≡ refusal f
-  refusal_back f none = rw (number_some f, number_back f)
-
-checked_back : (a : Checked) → from Accepted CheckRefused (checked a) ≡ a
-checked_back (Accepted x) = value_back Accepted CheckRefused x
-checked_back (CheckRefused f) = refusal_back Accepted CheckRefused f no_record
-
-pub checked_known : (a b : Checked) → checked a ≡ checked b → a ≡ b
-checked_known = known_by checked (from Accepted CheckRefused) checked_back
-
-packed_back : (a : Packed) → from Word PackRefused (packed a) ≡ a
-packed_back (Word x) = value_back Word PackRefused x
-packed_back (PackRefused f) = refusal_back Word PackRefused f 0
-
-pub packed_known : (a b : Packed) → packed a ≡ packed b → a ≡ b
-packed_known = known_by packed (from Word PackRefused) packed_back
-
-sized_back : (a : Sized) → from Size SizeRefused (sized a) ≡ a
-sized_back (Size x) = value_back Size SizeRefused x
-sized_back (SizeRefused f) = refusal_back Size SizeRefused f (pos 0)
-
-pub sized_known : (a b : Sized) → sized a ≡ sized b → a ≡ b
-sized_known = known_by sized (from Size SizeRefused) sized_back
-
-told_back : (a : Told) → from Tells ReadRefused (told a) ≡ a
-told_back (Tells x) = value_back Tells ReadRefused x
-told_back (ReadRefused f) = refusal_back Tells ReadRefused f no_description
-
-pub told_known : (a b : Told) → told a ≡ told b → a ≡ b
-told_known = known_by told (from Tells ReadRefused) told_back
+  pub outcome_known : (a b : Result A Refusal) → outcome none a ≡ outcome none b → a ≡ b
+  outcome_known = known_by (outcome none) outcome_from outcome_back

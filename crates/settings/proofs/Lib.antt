@@ -9,7 +9,7 @@
 --     Accepted   what acceptance says, and that it holds exactly of what the check returns
 --     Words      a packed word's fields, and records with one word
 --     Told       demand 3 as far as records go
---     Pasting    values copied into a slice
+--     Pasting    values put into a list
 --     ByHand     document 01's table, computed
 --     Outcome    what a call promises, one outcome, and the law behind it
 --     Unique     one outcome for each public call

@@ -8,12 +8,13 @@ use native.Mathlib.Omega.{arith}
 use lib.Dec.{eqb}
 use lib.IntN.{ℤ, pos}
 use borrow.Author.Tests.{eqb-true, eq-eqb, lt-ltb}
+use Rattle.std.specs.Bool.{then_some}
 use Rattle.settings.specs.declared.super_opts.SuperOpts.{SuperOpts}
 use Rattle.settings.specs.Limits.{most_side, most_levels}
 use Rattle.settings.specs.Numbers.{is_nat, to_nat, is_i32, refuse, ◌then◌}
 use Rattle.settings.specs.Check.{settings_no, accepted, RecordI32}
 use Rattle.settings.specs.Word.{word_of, pack_no}
-use Rattle.settings.specs.Reading.{is_set, candidate, up_matters, down_matters, is_code, read_no, tell_if, describe, Packs}
+use Rattle.settings.specs.Reading.{is_set, candidate, up_matters, down_matters, is_code, read_no, describe, Packs}
 use Rattle.settings.specs.Answers.{Answer, answer, pack_answer, Returns}
 use Rattle.settings.proofs.Tests.{and_left, and_right, or_yes, not_not, cond_not, clash, false_by}
 use Rattle.settings.proofs.Accepted.{is_nat_pos, Fine, fine, fine_accepted, sound, within, pos_pel, pos_gpu, pos_side, pos_levels, accepted_exact}
@@ -158,14 +159,14 @@ none_exact v = (
 )
 
 -- ---- 0: "it then tells the width, .. they all have, and their down and up where document 01 says these matter"
-tell_down : (m f : Bool) (z : ℤ) → is_nat z 4 ≡ f → (m && not (is_nat (cond f (pos 4) (pos 0)) 4)) ≡ false → tell_if m (cond f (pos 4) (pos 0)) ≡ tell_if m z
-tell_down true true z e h = ap (tell_if true) (sym (is_nat_pos z 4 e))
+tell_down : (m f : Bool) (z : ℤ) → is_nat z 4 ≡ f → (m && not (is_nat (cond f (pos 4) (pos 0)) 4)) ≡ false → then_some m (cond f (pos 4) (pos 0)) ≡ then_some m z
+tell_down true true z e h = ap (then_some true) (sym (is_nat_pos z 4 e))
 tell_down true false z e h = cc
 tell_down false f z e h = refl
 
-tell_up : (m g : Bool) (z : ℤ) → (g || is_nat z 0) ≡ true → (m && g) ≡ false → tell_if m (pos 0) ≡ tell_if m z
+tell_up : (m g : Bool) (z : ℤ) → (g || is_nat z 0) ≡ true → (m && g) ≡ false → then_some m (pos 0) ≡ then_some m z
 tell_up true true z e h = cc
-tell_up true false z e h = ap (tell_if true) (sym (is_nat_pos z 0 e))
+tell_up true false z e h = ap (then_some true) (sym (is_nat_pos z 0 e))
 tell_up false g z e h = refl
 
 canon_told : (r : SuperOpts) → Fine r → halving (canon r) ≡ false → upscale (canon r) ≡ false → describe (canon r) ≡ describe r

@@ -1,5 +1,5 @@
 -- Document 01's number and value: of each call, and of each answer that is an enum.
-use Rattle.std.specs.Prelude.{ℕ, ◌≡◌, true, false, cond, List, ◌++◌, eqb, ℤ, pos, length, drop}
+use Rattle.std.specs.Prelude.{ℕ, ◌≡◌, true, false, cond, List, ◌++◌, eqb, ℤ, pos, length, drop, ⊤, None, Result, Ok, Err}
 use Rattle.settings.specs.declared.refusal.Refusal.{Refusal}
 use Rattle.settings.specs.declared.refusal.Refusal.TheVariants.{Setting, NoRecord, Layout, Lent, Levels, Longhand, NoRow, Word as BadCode, Planes}
 use Rattle.settings.specs.declared.refusal.BadSetting.{BadSetting}
@@ -14,20 +14,9 @@ use Rattle.settings.specs.declared.refusal.BadWord.{BadWord}
 use Rattle.settings.specs.declared.refusal.BadWord.TheVariants.{NoCode, Halving, Upscale}
 use Rattle.settings.specs.declared.refusal.BadPlanes.{BadPlanes}
 use Rattle.settings.specs.declared.refusal.BadPlanes.TheVariants.{Side as ShortSide, Full as NotFull}
-use Rattle.settings.specs.declared.refusal.Tested.{Tested}
-use Rattle.settings.specs.declared.refusal.Tested.TheVariants.{Fine, Refused as TestRefused}
-use Rattle.settings.specs.declared.super_opts.OptInt.TheVariants.{Absent as NoInt}
 use Rattle.settings.specs.declared.super_opts.Settings.{Settings}
 use Rattle.settings.specs.declared.super_opts.SuperOpts.{SuperOpts}
-use Rattle.settings.specs.declared.super_opts.Checked.{Checked}
-use Rattle.settings.specs.declared.super_opts.Checked.TheVariants.{Accepted, Refused as CheckRefused}
-use Rattle.settings.specs.declared.super_opts.Packed.{Packed}
-use Rattle.settings.specs.declared.super_opts.Packed.TheVariants.{Word, Refused as PackRefused}
-use Rattle.settings.specs.declared.super_opts.Sized.{Sized}
-use Rattle.settings.specs.declared.super_opts.Sized.TheVariants.{Size, Refused as SizeRefused}
 use Rattle.settings.specs.declared.word.Description.{Description}
-use Rattle.settings.specs.declared.word.Told.{Told}
-use Rattle.settings.specs.declared.word.Told.TheVariants.{Tells, Refused as ReadRefused}
 use Rattle.settings.specs.Numbers.{is_i32}
 use Rattle.settings.specs.Check.{settled, settings_no, record_no, super_height, super_width, SettingsI32}
 use Rattle.settings.specs.Word.{pack_no, word_of}
@@ -148,30 +137,32 @@ no_description =
       full = false;
       rc = false;
       lean = false;
-      down = NoInt;
-      up = NoInt;
+      down = None;
+      up = None;
     }
 
 abbrev pub read_answer : ℕ → Answer Description
 read_answer v = if_done (read_no v) (describe (candidate v)) no_description
 
--- ---- the enums
-abbrev pub tested : Tested → ℕ
-tested Fine = 0
-tested (TestRefused f) = number f
+-- ---- the results of calls
+-- of a row of tests: 0 where none applies
+abbrev pub tested : Result ⊤ Refusal → ℕ
+tested (Ok t) = 0
+tested (Err f) = number f
 
-abbrev pub checked : Checked → Answer SuperOpts
-checked (Accepted r) = answer 0 r
-checked (CheckRefused f) = answer (number f) no_record
+-- of a call that gives a value, and `none` where it refuses
+abbrev pub outcome : {A : Type 0} → A → Result A Refusal → Answer A
+outcome none (Ok a) = answer 0 a
+outcome none (Err f) = answer (number f) none
 
-abbrev pub packed : Packed → Answer ℕ
-packed (Word w) = answer 0 w
-packed (PackRefused f) = answer (number f) 0
+abbrev pub checked : Result SuperOpts Refusal → Answer SuperOpts
+checked = outcome no_record
 
-abbrev pub sized : Sized → Answer ℤ
-sized (Size n) = answer 0 n
-sized (SizeRefused f) = answer (number f) (pos 0)
+abbrev pub packed : Result ℕ Refusal → Answer ℕ
+packed = outcome 0
 
-abbrev pub told : Told → Answer Description
-told (Tells d) = answer 0 d
-told (ReadRefused f) = answer (number f) no_description
+abbrev pub sized : Result ℤ Refusal → Answer ℤ
+sized = outcome (pos 0)
+
+abbrev pub told : Result Description Refusal → Answer Description
+told = outcome no_description

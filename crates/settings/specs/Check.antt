@@ -1,9 +1,5 @@
 -- Document 01, "Settings and sizes": the settings check, what it can return, and the super sizes of a record.
-use Rattle.std.specs.Prelude.{ℕ, ◌+◌, ◌*◌, ◌-◌, ◌/◌, ◌%◌, max, ◌≡◌, Bool, true, false, cond, not, ◌&&◌, ◌||◌, leb, ltb, eqb, ℤ, pos, negsuc}
-use Rattle.settings.specs.declared.super_opts.OptInt.{OptInt}
-use Rattle.settings.specs.declared.super_opts.OptInt.TheVariants.{Given as GivenInt, Absent as NoInt}
-use Rattle.settings.specs.declared.super_opts.OptBool.{OptBool}
-use Rattle.settings.specs.declared.super_opts.OptBool.TheVariants.{Given as GivenBool, Absent as NoBool}
+use Rattle.std.specs.Prelude.{ℕ, ◌+◌, ◌*◌, ◌-◌, ◌/◌, ◌%◌, max, ◌≡◌, Bool, true, false, cond, not, ◌&&◌, ◌||◌, leb, ltb, eqb, ℤ, pos, negsuc, Option, Some, None, unwrap_or}
 use Rattle.settings.specs.declared.super_opts.Settings.{Settings}
 use Rattle.settings.specs.declared.super_opts.SuperOpts.{SuperOpts}
 use Rattle.settings.specs.declared.super_opts.Naturals.{Naturals}
@@ -12,14 +8,6 @@ use Rattle.settings.specs.Numbers.{is_nat, to_nat, is_i32, refuse, ◌then◌, t
 use Rattle.settings.specs.Sizes.{reduce, reduced, auto_levels}
 
 -- ---- "Each setting is present or absent, as an i32 or a bool."
-abbrev pub int_or : OptInt → ℤ → ℤ
-int_or (GivenInt z) d = z
-int_or NoInt d = d
-
-abbrev pub bool_or : OptBool → Bool → Bool
-bool_or (GivenBool b) d = b
-bool_or NoBool d = d
-
 -- "If gpu isn't 0, up becomes 0."
 abbrev pub up_by : ℤ → ℤ → ℤ
 up_by gpu up = cond (is_nat gpu 0) up (pos 0)
@@ -27,15 +15,15 @@ up_by gpu up = cond (is_nat gpu 0) up (pos 0)
 -- "Defaults: pel 2, gpu 1, down 4, up 2, full yes, rc no, lean no."
 unfoldable pub settled : Settings → ℤ → ℤ → SuperOpts
 settled s w h =
-    let gpu = int_or s.gpu (pos 1) in
+    let gpu = unwrap_or s.gpu (pos 1) in
     record {
-      pel = int_or s.pel (pos 2);
+      pel = unwrap_or s.pel (pos 2);
       gpu = gpu;
-      scale_down = int_or s.down (pos 4);
-      scale_up = up_by gpu (int_or s.up (pos 2));
-      full = bool_or s.full true;
-      rc = bool_or s.rc false;
-      lean = bool_or s.lean false;
+      scale_down = unwrap_or s.down (pos 4);
+      scale_up = up_by gpu (unwrap_or s.up (pos 2));
+      full = unwrap_or s.full true;
+      rc = unwrap_or s.rc false;
+      lean = unwrap_or s.lean false;
       levels = pos (auto_levels (to_nat w) (to_nat h));
       width = w;
       height = h;
@@ -98,9 +86,9 @@ abbrev pub record_no : SuperOpts → ℕ
 record_no r = refuse (not (accepted r)) 6
 
 -- every setting and every field is an i32
-abbrev pub opt_i32 : OptInt → Bool
-opt_i32 (GivenInt z) = is_i32 z
-opt_i32 NoInt = true
+abbrev pub opt_i32 : Option ℤ → Bool
+opt_i32 (Some z) = is_i32 z
+opt_i32 None = true
 
 pub record SettingsI32 (s : Settings) : Type 0 where
   pub pel : opt_i32 s.pel ≡ true

@@ -1,8 +1,7 @@
 -- Document 01, "Words read and compared": which build a word names, or what it doesn't tell.
 -- That reading meets demand 3 is proved in crate demands, over the bytes that builds leave.
-use Rattle.std.specs.Prelude.{ℕ, ◌%◌, ◌^◌, ◌≡◌, Bool, true, false, cond, not, ◌&&◌, leb, ltb, eqb, ℤ, pos}
-use Rattle.settings.specs.declared.super_opts.OptInt.{OptInt}
-use Rattle.settings.specs.declared.super_opts.OptInt.TheVariants.{Given as GivenInt, Absent as NoInt}
+use Rattle.std.specs.Prelude.{ℕ, ◌%◌, ◌^◌, ◌≡◌, Bool, true, cond, not, ◌&&◌, leb, ltb, eqb, pos}
+use Rattle.std.specs.Bool.{then_some}
 use Rattle.settings.specs.declared.super_opts.SuperOpts.{SuperOpts}
 use Rattle.settings.specs.declared.word.Description.{Description}
 use Rattle.settings.specs.Numbers.{is_nat, to_nat, is_i32, refuse, ◌then◌}
@@ -49,10 +48,6 @@ read_no v =
     then refuse (up_matters r && is_nat r.gpu 0) 22
 
 -- ---- what a code tells: "the width, height, pel, levels, gpu, full, rc and lean .., and .. down and up where document 01 says these matter"
-abbrev pub tell_if : Bool → ℤ → OptInt
-tell_if true z = GivenInt z
-tell_if false z = NoInt
-
 abbrev pub describe : SuperOpts → Description
 describe r =
     record {
@@ -64,8 +59,8 @@ describe r =
       full = r.full;
       rc = r.rc;
       lean = r.lean;
-      down = tell_if (down_matters r) r.scale_down;
-      up = tell_if (up_matters r) r.scale_up;
+      down = then_some (down_matters r) r.scale_down;
+      up = then_some (up_matters r) r.scale_up;
     }
 
 -- ---- the records behind a word

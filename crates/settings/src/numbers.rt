@@ -22,17 +22,11 @@ pub fn bit(b: bool) -> u64
 pub fn to_bits(z: i32) -> u32
     ensures { result ≡ bits_of z }
 {
-    if z < 0 {
-        return 0xffff_ffff - (-1 - z) as u32;
-    }
-    z as u32
+    z.cast_unsigned()
 }
 
 pub fn from_bits(n: u32) -> i32
     ensures { result ≡ of_bits n }
 {
-    if n < 0x8000_0000 {
-        return n as i32;
-    }
-    -1 - (0xffff_ffff - n) as i32
+    n.cast_signed()
 }

@@ -1,12 +1,12 @@
 // Why a call is refused, as documents 01 and 02 number it.
-// First the refusals and the answer of a test; then the number of each group and of a refusal; last a row of refusals, put together one by one.
+// First the refusals, by groups, each case with its number; then the number of a refusal, and a refusal of each group; last a test of a row of tests.
 // No group has more than 16 cases: up to that the checker finds the proof of its numbers by itself.
-ghost use Rattle.std.specs.Prelude.{◌≡◌, eqb};
-ghost use Rattle.settings.specs.Numbers.{refuse, ◌then◌};
-ghost use Rattle.settings.specs.Answers.{setting_number, layout_number, lent_number, longhand_number, word_number, planes_number, number, tested};
+ghost use Rattle.std.specs.Prelude.{◌≡◌, cond, Ok, Err};
+ghost use Rattle.settings.specs.declared.refusal.Refusal.TheVariants.{Setting, Layout, Lent, Longhand, Word, Planes};
+ghost use Rattle.settings.specs.Answers.{number};
 
 // Why a call is refused: "Numbers a call can give" of document 01, and those of document 02, by what is at fault.
-#[derive(Clone, Copy)]
+#[derive(Clone, Copy, Debug, PartialEq, Eq)]
 pub enum Refusal {
     Setting(BadSetting),
     NoRecord,
@@ -19,133 +19,51 @@ pub enum Refusal {
     Planes(BadPlanes),
 }
 
-#[derive(Clone, Copy)]
+#[derive(Clone, Copy, Debug, PartialEq, Eq)]
 pub enum BadSetting {
-    Pel,
-    Gpu,
-    Finest,
-    Lean,
-    Side,
+    Pel = 1,
+    Gpu = 2,
+    Finest = 3,
+    Lean = 4,
+    Side = 5,
 }
 
-#[derive(Clone, Copy)]
+#[derive(Clone, Copy, Debug, PartialEq, Eq)]
 pub enum BadLayout {
-    Shift,
-    Pitch,
-    Stored,
+    Shift = 7,
+    Pitch = 8,
+    Stored = 32,
 }
 
 // Of what a call is lent.
-#[derive(Clone, Copy)]
+#[derive(Clone, Copy, Debug, PartialEq, Eq)]
 pub enum BadLent {
-    SourcePitch,
-    Source,
-    Frame,
-    Spill,
-    Scratch,
+    SourcePitch = 9,
+    Source = 10,
+    Frame = 11,
+    Spill = 12,
+    Scratch = 13,
 }
 
-#[derive(Clone, Copy)]
+#[derive(Clone, Copy, Debug, PartialEq, Eq)]
 pub enum BadLonghand {
-    Short,
-    Length,
-    Contents,
+    Short = 15,
+    Length = 17,
+    Contents = 18,
 }
 
-#[derive(Clone, Copy)]
+#[derive(Clone, Copy, Debug, PartialEq, Eq)]
 pub enum BadWord {
-    NoCode,
-    Halving,
-    Upscale,
+    NoCode = 20,
+    Halving = 21,
+    Upscale = 22,
 }
 
 // Of a record that a frame of three planes is asked for.
-#[derive(Clone, Copy)]
+#[derive(Clone, Copy, Debug, PartialEq, Eq)]
 pub enum BadPlanes {
-    Side,
-    Full,
-}
-
-// What a row of tests says: nothing against it, or the first that applies.
-#[derive(Clone, Copy)]
-pub enum Tested {
-    Fine,
-    Refused(Refusal),
-}
-
-impl BadSetting {
-    fn number(self) -> u32
-        ensures { result ≡ setting_number self }
-    {
-        match self {
-            BadSetting::Pel => 1,
-            BadSetting::Gpu => 2,
-            BadSetting::Finest => 3,
-            BadSetting::Lean => 4,
-            BadSetting::Side => 5,
-        }
-    }
-}
-
-impl BadLayout {
-    fn number(self) -> u32
-        ensures { result ≡ layout_number self }
-    {
-        match self {
-            BadLayout::Shift => 7,
-            BadLayout::Pitch => 8,
-            BadLayout::Stored => 32,
-        }
-    }
-}
-
-impl BadLent {
-    fn number(self) -> u32
-        ensures { result ≡ lent_number self }
-    {
-        match self {
-            BadLent::SourcePitch => 9,
-            BadLent::Source => 10,
-            BadLent::Frame => 11,
-            BadLent::Spill => 12,
-            BadLent::Scratch => 13,
-        }
-    }
-}
-
-impl BadLonghand {
-    fn number(self) -> u32
-        ensures { result ≡ longhand_number self }
-    {
-        match self {
-            BadLonghand::Short => 15,
-            BadLonghand::Length => 17,
-            BadLonghand::Contents => 18,
-        }
-    }
-}
-
-impl BadWord {
-    fn number(self) -> u32
-        ensures { result ≡ word_number self }
-    {
-        match self {
-            BadWord::NoCode => 20,
-            BadWord::Halving => 21,
-            BadWord::Upscale => 22,
-        }
-    }
-}
-
-impl BadPlanes {
-    fn number(self) -> u32
-        ensures { result ≡ planes_number self }
-    {
-        match self {
-            BadPlanes::Side => 23,
-            BadPlanes::Full => 24,
-        }
-    }
+    Side = 23,
+    Full = 24,
 }
 
 impl Refusal {
@@ -153,39 +71,70 @@ impl Refusal {
         ensures { result ≡ number self }
     {
         match self {
-            Refusal::Setting(f) => f.number(),
+            Refusal::Setting(f) => f as u32,
             Refusal::NoRecord => 6,
-            Refusal::Layout(f) => f.number(),
-            Refusal::Lent(f) => f.number(),
+            Refusal::Layout(f) => f as u32,
+            Refusal::Lent(f) => f as u32,
             Refusal::Levels => 14,
-            Refusal::Longhand(f) => f.number(),
+            Refusal::Longhand(f) => f as u32,
             Refusal::NoRow => 19,
-            Refusal::Word(f) => f.number(),
-            Refusal::Planes(f) => f.number(),
+            Refusal::Word(f) => f as u32,
+            Refusal::Planes(f) => f as u32,
         }
     }
 }
 
-impl Tested {
-    // A row of tests is a chain of these: the first that applies stays.
-    pub fn then_refuse(self, test: bool, f: Refusal) -> Tested
-        ensures { tested result ≡ (tested self then refuse test (number f)) }
-    {
-        let Tested::Fine = self else {
-            return self;
-        };
-        if test {
-            return Tested::Refused(f);
-        }
-        Tested::Fine
-    }
+impl From<BadSetting> for Refusal {
+    ghost from_gives = { λ f r. r ≡ Setting f };
 
-    pub fn is_fine(self) -> bool
-        ensures { result ≡ eqb (tested self) 0 }
-    {
-        match self {
-            Tested::Fine => true,
-            Tested::Refused(_) => false,
-        }
+    fn from(f: BadSetting) -> Refusal {
+        Refusal::Setting(f)
     }
+}
+
+impl From<BadLayout> for Refusal {
+    ghost from_gives = { λ f r. r ≡ Layout f };
+
+    fn from(f: BadLayout) -> Refusal {
+        Refusal::Layout(f)
+    }
+}
+
+impl From<BadLent> for Refusal {
+    ghost from_gives = { λ f r. r ≡ Lent f };
+
+    fn from(f: BadLent) -> Refusal {
+        Refusal::Lent(f)
+    }
+}
+
+impl From<BadLonghand> for Refusal {
+    ghost from_gives = { λ f r. r ≡ Longhand f };
+
+    fn from(f: BadLonghand) -> Refusal {
+        Refusal::Longhand(f)
+    }
+}
+
+impl From<BadWord> for Refusal {
+    ghost from_gives = { λ f r. r ≡ Word f };
+
+    fn from(f: BadWord) -> Refusal {
+        Refusal::Word(f)
+    }
+}
+
+impl From<BadPlanes> for Refusal {
+    ghost from_gives = { λ f r. r ≡ Planes f };
+
+    fn from(f: BadPlanes) -> Refusal {
+        Refusal::Planes(f)
+    }
+}
+
+// A row of tests is a chain of these, each with a `?`: the first that applies is told.
+pub fn refuse_if<E: Drop>(test: bool, f: E) -> Result<(), E>
+    ensures { result ≡ cond test (Err f) (Ok tt) }
+{
+    if test { Err(f) } else { Ok(()) }
 }

@@ -4,41 +4,29 @@ ghost use Rattle.std.specs.Prelude.{◌≡◌, true, cond, not, ◌+◌, ◌*◌
 ghost use Rattle.settings.specs.Limits.{most_side, most_levels};
 ghost use Rattle.settings.specs.Numbers.{is_nat, to_nat, bit};
 ghost use Rattle.settings.specs.Sizes.{reduce, reduced, auto_levels};
-ghost use Rattle.settings.specs.Check.{int_or, bool_or, up_by, settled, is_pel, is_gpu, no_finest, bad_lean, is_side, settings_no, naturals_of, accepted, upward, raised_to_even, full_height, packed_height, super_height, super_width};
+ghost use Rattle.settings.specs.Check.{up_by, settled, is_pel, is_gpu, no_finest, bad_lean, is_side, settings_no, naturals_of, accepted, upward, raised_to_even, full_height, packed_height, super_height, super_width};
 ghost use Rattle.settings.specs.Inner.{accepted_but_levels};
 ghost use Rattle.settings.specs.Word.{word_of};
 ghost use Rattle.settings.specs.Answers.{tested, checked, check_answer, packed, pack_answer, sized, height_answer, width_answer};
 
 use crate::limits::{MOST_PACKED, MOST_SIDE};
 use crate::numbers::{bit, natural};
-use crate::refusal::{BadSetting, Refusal, Tested};
+use crate::refusal::{BadSetting, Refusal, refuse_if};
 
 const DEFAULT_SCALE_DOWN: i32 = 4;
 
 #[derive(Clone, Copy)]
-pub enum OptInt {
-    Given(i32),
-    Absent,
-}
-
-#[derive(Clone, Copy)]
-pub enum OptBool {
-    Given(bool),
-    Absent,
-}
-
-#[derive(Clone, Copy)]
 pub struct Settings {
-    pub pel: OptInt,
-    pub gpu: OptInt,
-    pub down: OptInt,
-    pub up: OptInt,
-    pub full: OptBool,
-    pub rc: OptBool,
-    pub lean: OptBool,
+    pub pel: Option<i32>,
+    pub gpu: Option<i32>,
+    pub down: Option<i32>,
+    pub up: Option<i32>,
+    pub full: Option<bool>,
+    pub rc: Option<bool>,
+    pub lean: Option<bool>,
 }
 
-#[derive(Clone, Copy)]
+#[derive(Clone, Copy, Default)]
 pub struct SuperOpts {
     pub pel: i32,
     pub gpu: i32,
@@ -62,67 +50,21 @@ pub struct Naturals {
     pub height: u32,
 }
 
-#[derive(Clone, Copy)]
-pub enum Checked {
-    Accepted(SuperOpts),
-    Refused(Refusal),
-}
-
-#[derive(Clone, Copy)]
-pub enum Packed {
-    Word(u64),
-    Refused(Refusal),
-}
-
-#[derive(Clone, Copy)]
-pub enum Sized {
-    Size(i32),
-    Refused(Refusal),
-}
-
-impl OptInt {
-    fn or(self, default: i32) -> i32
-        ensures { result ≡ int_or self default }
-    {
-        match self {
-            OptInt::Given(z) => z,
-            OptInt::Absent => default,
-        }
-    }
-}
-
-impl OptBool {
-    fn or(self, default: bool) -> bool
-        ensures { result ≡ bool_or self default }
-    {
-        match self {
-            OptBool::Given(b) => b,
-            OptBool::Absent => default,
-        }
-    }
-}
-
 impl Settings {
     // With the defaults filled in. Levels are counted before the sides are tested: any number has a count.
+    #[tactic(auto, unfolding(crate::specs::Check::settled))]
     fn settled(self, width: i32, height: i32) -> SuperOpts
         ensures { result ≡ settled self width height }
     {
-        let pel = self.pel;
-        let gpu = self.gpu;
-        let down = self.down;
-        let up = self.up;
-        let full = self.full;
-        let rc = self.rc;
-        let lean = self.lean;
-        let gpu = gpu.or(1);
+        let gpu = self.gpu.unwrap_or(1);
         SuperOpts {
-            pel: pel.or(2),
+            pel: self.pel.unwrap_or(2),
             gpu,
-            scale_down: down.or(DEFAULT_SCALE_DOWN),
-            scale_up: up_by(gpu, up.or(2)),
-            full: full.or(true),
-            rc: rc.or(false),
-            lean: lean.or(false),
+            scale_down: self.down.unwrap_or(DEFAULT_SCALE_DOWN),
+            scale_up: up_by(gpu, self.up.unwrap_or(2)),
+            full: self.full.unwrap_or(true),
+            rc: self.rc.unwrap_or(false),
+            lean: self.lean.unwrap_or(false),
             levels: levels_of(width, height),
             width,
             height,
@@ -158,32 +100,28 @@ fn is_side(z: i32) -> bool
 }
 
 impl SuperOpts {
-    pub fn from_opt(opt: Settings, width: i32, height: i32) -> Checked
+    pub fn from_opt(opt: Settings, width: i32, height: i32) -> Result<SuperOpts, Refusal>
         ensures { checked result ≡ check_answer opt width height }
     {
         let settled = opt.settled(width, height);
-        match settled.tested() {
-            Tested::Fine => Checked::Accepted(settled),
-            Tested::Refused(f) => Checked::Refused(f),
-        }
+        settled.tested()?;
+        Ok(settled)
     }
 
     // Refusals 1 to 5.
-    fn tested(self) -> Tested
+    #[tactic(auto, unfolding(crate::specs::Check::settings_no))]
+    fn tested(self) -> Result<(), Refusal>
         ensures { tested result ≡ settings_no self }
     {
-        let pel = is_pel(self.pel);
-        let gpu = is_gpu(self.gpu);
-        let finest = self.no_finest();
-        let lean = self.bad_lean();
-        let width = is_side(self.width);
-        let height = is_side(self.height);
-        Tested::Fine
-            .then_refuse(!pel, Refusal::Setting(BadSetting::Pel))
-            .then_refuse(!gpu, Refusal::Setting(BadSetting::Gpu))
-            .then_refuse(finest, Refusal::Setting(BadSetting::Finest))
-            .then_refuse(lean, Refusal::Setting(BadSetting::Lean))
-            .then_refuse(!width | !height, Refusal::Setting(BadSetting::Side))
+        refuse_if(!is_pel(self.pel), BadSetting::Pel)?;
+        refuse_if(!is_gpu(self.gpu), BadSetting::Gpu)?;
+        refuse_if(self.no_finest(), BadSetting::Finest)?;
+        refuse_if(self.bad_lean(), BadSetting::Lean)?;
+        refuse_if(
+            !is_side(self.width) | !is_side(self.height),
+            BadSetting::Side,
+        )?;
+        Ok(())
     }
 
     fn no_finest(self) -> bool
@@ -206,8 +144,7 @@ impl SuperOpts {
     pub fn accepted_but_levels(self) -> bool
         ensures { result ≡ accepted_but_levels self }
     {
-        let fine = self.tested().is_fine();
-        fine & ((self.gpu == 0) | (self.scale_up == 0))
+        self.tested().is_ok() & ((self.gpu == 0) | (self.scale_up == 0))
     }
 
     // Whether the check can return this record.
@@ -233,16 +170,16 @@ impl SuperOpts {
         }
     }
 
-    pub fn pack_data(self) -> Packed
+    pub fn pack_data(self) -> Result<u64, Refusal>
         ensures { packed result ≡ pack_answer self }
     {
         if !self.accepted() {
-            return Packed::Refused(Refusal::NoRecord);
+            return Err(Refusal::NoRecord);
         }
         if natural(self.levels) > MOST_PACKED {
-            return Packed::Refused(Refusal::Levels);
+            return Err(Refusal::Levels);
         }
-        Packed::Word(self.word())
+        Ok(self.word())
     }
 
     fn word(self) -> u64
@@ -273,22 +210,22 @@ impl SuperOpts {
         bit(self.rc) + 2 * bit(!self.full)
     }
 
-    pub fn super_height(self) -> Sized
+    pub fn super_height(self) -> Result<i32, Refusal>
         ensures { sized result ≡ height_answer self }
     {
         if !self.accepted() {
-            return Sized::Refused(Refusal::NoRecord);
+            return Err(Refusal::NoRecord);
         }
-        Sized::Size(self.accepted_height())
+        Ok(self.accepted_height())
     }
 
-    pub fn super_width(self) -> Sized
+    pub fn super_width(self) -> Result<i32, Refusal>
         ensures { sized result ≡ width_answer self }
     {
         if !self.accepted() {
-            return Sized::Refused(Refusal::NoRecord);
+            return Err(Refusal::NoRecord);
         }
-        Sized::Size(self.accepted_width())
+        Ok(self.accepted_width())
     }
 
     // The super sizes of an accepted record: for calls that have tested it.
@@ -370,7 +307,7 @@ fn auto_levels(width: u32, height: u32) -> u32
 fn has_levels(levels: u32, width: u32, height: u32) -> bool
     ensures { result ≡ eqb levels (auto_levels width height) }
 {
-    let least = shorter(width, height);
+    let least = width.min(height);
     if levels == 0 {
         return least < 4;
     }
@@ -378,15 +315,6 @@ fn has_levels(levels: u32, width: u32, height: u32) -> bool
         return false;
     }
     least >> (levels + 1) == 1
-}
-
-fn shorter(width: u32, height: u32) -> u32
-    ensures { result ≡ min width height }
-{
-    if width < height {
-        return width;
-    }
-    height
 }
 
 // Of a record that isn't lean: `accepted_height` has answered a lean one before.
@@ -418,15 +346,8 @@ fn packed_height(base_w: u32, base_h: u32) -> u32
     requires { (base_w ≤ most_side) × (base_h ≤ most_side) }
     ensures { (result ≡ packed_height base_w base_h) × (result < 2 ^ 31) }
 {
-    let width = at_least_one(reduce_dim(base_w, 1));
-    raised_to_even(upward(base_w * base_h / 2, width))
-}
-
-fn upward(n: u32, d: u32) -> u32
-    requires { (1 ≤ d) × (n + d < 2 ^ 32) }
-    ensures { result ≡ upward n d }
-{
-    (n + d - 1) / d
+    let width = reduce_dim(base_w, 1).max(1);
+    raised_to_even((base_w * base_h / 2).div_ceil(width))
 }
 
 fn raised_to_even(n: u32) -> u32
@@ -434,13 +355,4 @@ fn raised_to_even(n: u32) -> u32
     ensures { result ≡ raised_to_even n }
 {
     n + n % 2
-}
-
-fn at_least_one(n: u32) -> u32
-    ensures { result ≡ max 1 n }
-{
-    if n < 1 {
-        return 1;
-    }
-    n
 }

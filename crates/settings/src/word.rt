@@ -1,11 +1,11 @@
 // Reading a word back, and comparing two words.
 // First the types; then `read_word` and what it is made of; last `prepare_alike`.
 ghost use Rattle.std.specs.Prelude.{◌≡◌, cond, ◌/◌, ◌%◌, ◌≤◌, eqb, pos};
-ghost use Rattle.settings.specs.Reading.{candidate, is_code, read_no, up_matters, down_matters, tell_if, describe, agree, alike};
+ghost use Rattle.settings.specs.Reading.{candidate, is_code, read_no, up_matters, down_matters, describe, agree, alike};
 ghost use Rattle.settings.specs.Answers.{tested, told, read_answer};
 
-use crate::refusal::{BadWord, Refusal, Tested};
-use crate::super_opts::{OptInt, Packed, SuperOpts};
+use crate::refusal::{BadWord, Refusal, refuse_if};
+use crate::super_opts::SuperOpts;
 
 // What a word tells. A setting that doesn't matter is absent.
 #[derive(Clone, Copy)]
@@ -18,24 +18,16 @@ pub struct Description {
     pub full: bool,
     pub rc: bool,
     pub lean: bool,
-    pub down: OptInt,
-    pub up: OptInt,
+    pub down: Option<i32>,
+    pub up: Option<i32>,
 }
 
-#[derive(Clone, Copy)]
-pub enum Told {
-    Tells(Description),
-    Refused(Refusal),
-}
-
-pub fn read_word(word: u64) -> Told
+pub fn read_word(word: u64) -> Result<Description, Refusal>
     ensures { told result ≡ read_answer word }
 {
     let r = candidate(word);
-    match tested(r, word) {
-        Tested::Fine => Told::Tells(describe(r)),
-        Tested::Refused(f) => Told::Refused(f),
-    }
+    tested(r, word)?;
+    Ok(describe(r))
 }
 
 // The record that a word spells, with 0 for a filter that the word doesn't name.
@@ -80,25 +72,26 @@ fn down_by(other: bool) -> i32
 }
 
 // Refusals 20 to 22 of a word and the record that it spells.
-fn tested(r: SuperOpts, word: u64) -> Tested
+#[tactic(auto, unfolding(crate::specs::Reading::read_no))]
+fn tested(r: SuperOpts, word: u64) -> Result<(), Refusal>
     requires { r ≡ candidate word }
     ensures { tested result ≡ read_no word }
 {
     let code = is_code(r, word);
     let halving = down_matters(r) & (r.scale_down != 4);
     let upscale = up_matters(r) & (r.gpu == 0);
-    Tested::Fine
-        .then_refuse(!code, Refusal::Word(BadWord::NoCode))
-        .then_refuse(halving, Refusal::Word(BadWord::Halving))
-        .then_refuse(upscale, Refusal::Word(BadWord::Upscale))
+    refuse_if(!code, BadWord::NoCode)?;
+    refuse_if(halving, BadWord::Halving)?;
+    refuse_if(upscale, BadWord::Upscale)?;
+    Ok(())
 }
 
 fn is_code(r: SuperOpts, word: u64) -> bool
     ensures { result ≡ is_code r word }
 {
     match r.pack_data() {
-        Packed::Word(w) => w == word,
-        Packed::Refused(_) => false,
+        Ok(w) => w == word,
+        Err(_) => false,
     }
 }
 
@@ -128,18 +121,9 @@ fn describe(r: SuperOpts) -> Description
         full: r.full,
         rc: r.rc,
         lean: r.lean,
-        down: tell_if(down_matters(r), r.scale_down),
-        up: tell_if(up_matters(r), r.scale_up),
+        down: down_matters(r).then_some(r.scale_down),
+        up: up_matters(r).then_some(r.scale_up),
     }
-}
-
-fn tell_if(matters: bool, z: i32) -> OptInt
-    ensures { result ≡ tell_if matters z }
-{
-    if matters {
-        return OptInt::Given(z);
-    }
-    OptInt::Absent
 }
 
 // Whether two words stand for one preparation.
@@ -152,10 +136,7 @@ pub fn prepare_alike(a: u64, b: u64) -> bool
 fn names_build(word: u64) -> bool
     ensures { result ≡ eqb (read_no word) 0 }
 {
-    match read_word(word) {
-        Told::Tells(_) => true,
-        Told::Refused(_) => false,
-    }
+    read_word(word).is_ok()
 }
 
 // In all bits but lean's and rc's.

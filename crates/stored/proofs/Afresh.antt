@@ -8,10 +8,10 @@ use Rattle.settings.specs.declared.super_opts.SuperOpts.{SuperOpts}
 use Rattle.settings.specs.Check.{accepted}
 use Rattle.settings.proofs.Outcome.{Promises}
 use Rattle.layouts.specs.Refusals.{layout_no}
-use Rattle.stored.specs.Layout.{is_stored}
+use Rattle.settings.proofs.Known.{outcome_known}
+use Rattle.stored.specs.Layout.{is_stored, no_stored}
 use Rattle.stored.specs.Refusals.{stored_no}
 use Rattle.stored.specs.Answers.{layout_answer, settled_by, change_answer}
-use Rattle.stored.proofs.Known.{laid_known}
 use Rattle.stored.proofs.layout.level_regions.Reads as level_regions_reads
 use Rattle.stored.proofs.layout.change.Reads as change_reads
 
@@ -26,4 +26,4 @@ change_is_making r l x y p other = go (accepted r) (is_stored r l) refl refl
 
 -- of record, layout, shifts and pitch
 pub change_afresh : (κs : Lfts 1) (κs' : Lfts 0) → Promises (change_reads.Post κs) (λ x a e. Promises (level_regions_reads.Post κs') (λ y b d. y.0 ≡ settled_by x.0 x.1.1.0 x.1.1.1.0 x.1.1.1.1.0 → (stored_no x.0 x.1.0.now ≡ 32 → ⊥) → a ≡ b))
-change_afresh κs κs' x a e p y b d p' same other = laid_known a b (p ∙ change_is_making x.0 x.1.0.now x.1.1.0 x.1.1.1.0 x.1.1.1.1.0 other ∙ ap layout_answer (sym same) ∙ sym p')
+change_afresh κs κs' x a e p y b d p' same other = outcome_known no_stored a b (p ∙ change_is_making x.0 x.1.0.now x.1.1.0 x.1.1.1.0 x.1.1.1.1.0 other ∙ ap layout_answer (sym same) ∙ sym p')

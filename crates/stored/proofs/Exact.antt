@@ -8,7 +8,7 @@ use native.Mathlib.Nat.{le_of_suc-le-suc, eq-or-lt_of_le}
 use native.Mathlib.Omega.{arith}
 use lib.Dec.{eqb, leb}
 use lib.ListN.{length, get_or}
-use borrow.Author.Tests.{eqb-true, eq-eqb, le-leb, leb-true, le-ltb, not-false}
+use borrow.Author.Tests.{eqb-true, eq-eqb, le-leb, leb-true, le-ltb, not-true, not-false}
 use Rattle.settings.specs.declared.super_opts.SuperOpts.{SuperOpts}
 use Rattle.settings.specs.Limits.{most_levels}
 use Rattle.settings.specs.Numbers.{refuse}
@@ -88,6 +88,15 @@ pub every_no : (p : ℕ → Bool) (n j : ℕ) → j < n → p j ≡ false → ev
 every_no p n j lt e = false_by (every_level p n) (λ yes. clash (p j) (every_at p n yes j lt) e)
 
 -- ---- one region
+-- regions that `!=` tells apart
+pub apart : (a b : Region) → not (eqb a.offset b.offset && (eqb a.width b.width && eqb a.height b.height)) ≡ true → same_region a b ≡ false
+apart a b e = go (eqb a.offset b.offset) (eqb a.width b.width) (eqb a.height b.height) e
+  where
+    go : (x y z : Bool) → not (x && (y && z)) ≡ true → (x && y && z) ≡ false
+    go true true z e = not-true z e
+    go true false z e = refl
+    go false y z e = refl
+
 same_is : (a b : Region) → same_region a b ≡ true → a ≡ b
 same_is a b e =
     let o = eqb a.offset b.offset in

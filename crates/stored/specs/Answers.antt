@@ -1,11 +1,11 @@
 -- The number and value of making a stored layout and of changing one.
-use Rattle.std.specs.Prelude.{ℕ, List}
+use Rattle.std.specs.Prelude.{ℕ, List, Result}
+use Rattle.settings.specs.declared.refusal.Refusal.{Refusal}
 use Rattle.settings.specs.declared.super_opts.SuperOpts.{SuperOpts}
 use Rattle.settings.specs.Numbers.{◌then◌}
-use Rattle.settings.specs.Answers.{Answer, answer, if_done, tested}
+use Rattle.settings.specs.Answers.{Answer, if_done, outcome}
 use Rattle.layouts.specs.declared.layout.Layout.{Layout}
 use Rattle.layouts.specs.Refusals.{layout_no}
-use Rattle.stored.specs.declared.layout.Laid.{Laid}
 use Rattle.stored.specs.Layout.{stored_of, no_stored}
 use Rattle.stored.specs.Refusals.{stored_no}
 
@@ -21,5 +21,5 @@ settled_by r x y p = record { opts = r; x_shift = x; y_shift = y; pitch = p }
 abbrev pub change_answer : SuperOpts → List ℕ → ℕ → ℕ → ℕ → Answer (List ℕ)
 change_answer r l x y p = let q = settled_by r x y p in if_done (stored_no r l then layout_no q) (stored_of q) no_stored
 
-abbrev pub laid : Laid → Answer (List ℕ)
-laid a = answer (tested a.tested) a.layout
+abbrev pub laid : Result (List ℕ) Refusal → Answer (List ℕ)
+laid = outcome no_stored

@@ -17,7 +17,7 @@ use layouts::layout::{Layout, Region};
 use layouts::levels;
 use layouts::levels::{bad_pitch, least_pitch};
 use settings::limits::MOST_LEVELS;
-use settings::refusal::{BadLayout, Refusal, Tested};
+use settings::refusal::{BadLayout, Refusal, refuse_if};
 use settings::super_opts::SuperOpts;
 
 // The places of the numbers before those of the levels.
@@ -36,13 +36,6 @@ const STEP: usize = 3;
 
 pub const LAYOUT: usize = HEAD + STEP * MOST_LEVELS;
 
-// A layout that is made; zeros where it is refused.
-#[derive(Clone, Copy)]
-pub struct Laid {
-    pub tested: Tested,
-    pub layout: [usize; LAYOUT],
-}
-
 fn zero(numbers: &mut [usize])
     ensures { numbers.new ≡ replicate (length numbers.old) 0 }
 {
@@ -56,9 +49,7 @@ pub fn fill(numbers: &mut [usize], layout: Layout)
     requires { (layout_no layout ≡ 0) × (length numbers.old ≡ most_numbers) }
     ensures { numbers.new ≡ stored_of layout }
 {
-    let opts = layout.opts;
-    let n = opts.naturals();
-    let levels = n.levels;
+    let levels = layout.opts.naturals().levels;
     numbers[COUNT] = levels as usize;
     numbers[X_SHIFT] = layout.x_shift as usize;
     numbers[Y_SHIFT] = layout.y_shift as usize;
@@ -77,22 +68,13 @@ pub fn fill(numbers: &mut [usize], layout: Layout)
 }
 
 // Makes the layout that record, shifts and pitch settle. Refusals 6, 7 and 8.
-pub fn level_regions(layout: Layout) -> Laid
+pub fn level_regions(layout: Layout) -> Result<[usize; LAYOUT], Refusal>
     ensures { laid result ≡ layout_answer layout }
 {
+    levels::tested(layout)?;
     let mut numbers = [0; LAYOUT];
-    let t = levels::tested(layout);
-    let Tested::Fine = t else {
-        return Laid {
-            tested: t,
-            layout: numbers,
-        };
-    };
     fill(&mut numbers, layout);
-    Laid {
-        tested: Tested::Fine,
-        layout: numbers,
-    }
+    Ok(numbers)
 }
 
 fn has_view(numbers: &[usize]) -> bool
@@ -129,12 +111,6 @@ pub fn region_in(numbers: &[usize], level: u32) -> Region
     }
 }
 
-fn same_region(a: Region, b: Region) -> bool
-    ensures { result ≡ same_region a b }
-{
-    (a.offset == b.offset) & (a.width == b.width) & (a.height == b.height)
-}
-
 // The places past the last level, where those before are as making gives them.
 fn ends_in_zeros(numbers: &[usize], layout: Layout, levels: u32) -> bool
     requires { (layout_no layout ≡ 0) × (levels ≡ levels_of layout) × (length numbers.now ≡ most_numbers) × (every_level (same_at layout numbers.now) levels ≡ true) }
@@ -146,7 +122,7 @@ fn ends_in_zeros(numbers: &[usize], layout: Layout, levels: u32) -> bool
         height: 0,
     };
     for level in levels..MOST_LEVELS as u32 {
-        if !same_region(region_in(numbers, level), none) {
+        if region_in(numbers, level) != none {
             return false;
         }
     }
@@ -158,12 +134,10 @@ fn has_regions(numbers: &[usize], layout: Layout) -> bool
     requires { (layout_no layout ≡ 0) × (length numbers.now ≡ most_numbers) }
     ensures { result ≡ every_level (same_at layout numbers.now) most_levels }
 {
-    let opts = layout.opts;
-    let n = opts.naturals();
-    let levels = n.levels;
+    let levels = layout.opts.naturals().levels;
     let mut at = Descent::top(layout);
     for level in 0..levels {
-        if !same_region(region_in(numbers, level), at.region(layout, level)) {
+        if region_in(numbers, level) != at.region(layout, level) {
             return false;
         }
         at = at.next(layout, level);
@@ -183,44 +157,38 @@ fn is_stored(opts: SuperOpts, numbers: &[usize]) -> bool
     if bad_pitch(layout.pitch, least_pitch(layout)) {
         return false;
     }
-    let n = opts.naturals();
-    if numbers[COUNT] != n.levels as usize {
+    if numbers[COUNT] != opts.naturals().levels as usize {
         return false;
     }
     has_regions(numbers, layout)
 }
 
 // Whether they are the layout that the record gives for their own shifts and pitch. Refusals 6 and 32.
-pub fn tested(opts: SuperOpts, layout: &[usize]) -> Tested
+#[tactic(auto, unfolding(crate::specs::Refusals::stored_no))]
+pub fn tested(opts: SuperOpts, layout: &[usize]) -> Result<(), Refusal>
     ensures { tested result ≡ stored_no opts layout.now }
 {
-    if !opts.accepted() {
-        return Tested::Refused(Refusal::NoRecord);
-    }
-    if !is_stored(opts, layout) {
-        return Tested::Refused(Refusal::Layout(BadLayout::Stored));
-    }
-    Tested::Fine
+    refuse_if(!opts.accepted(), Refusal::NoRecord)?;
+    refuse_if(!is_stored(opts, layout), BadLayout::Stored)?;
+    Ok(())
 }
 
 // What making gives for other shifts or another pitch. Refusals 6 and 32, for the layout itself; then 7 and 8.
-pub fn change(opts: SuperOpts, layout: &[usize], x_shift: u32, y_shift: u32, pitch: usize) -> Laid
+pub fn change(
+    opts: SuperOpts,
+    layout: &[usize],
+    x_shift: u32,
+    y_shift: u32,
+    pitch: usize,
+) -> Result<[usize; LAYOUT], Refusal>
     ensures { laid result ≡ change_answer opts layout.now x_shift y_shift pitch }
 {
-    match tested(opts, layout) {
-        Tested::Fine => {
-            let old = view(opts, layout);
-            let opts = old.opts;
-            level_regions(Layout {
-                opts,
-                x_shift,
-                y_shift,
-                pitch,
-            })
-        }
-        Tested::Refused(f) => Laid {
-            tested: Tested::Refused(f),
-            layout: [0; LAYOUT],
-        },
-    }
+    tested(opts, layout)?;
+    let old = view(opts, layout);
+    level_regions(Layout {
+        x_shift,
+        y_shift,
+        pitch,
+        ..old
+    })
 }

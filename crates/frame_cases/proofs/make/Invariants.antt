@@ -2,5 +2,5 @@
 use Prim.Native.Nat.{◌<◌}
 use Rattle.frame_cases.proofs.make.Given as goal
 
-abbrev pub invariant-loop-i : goal.invariant-loop-i
-invariant-loop-i l = l.x < 2147483647
+abbrev pub invariant-loop-b : goal.invariant-loop-b
+invariant-loop-b l = l.x < 2147483647

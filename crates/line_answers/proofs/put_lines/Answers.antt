@@ -1,13 +1,17 @@
-use Rattle.lines.proofs.Parted.{part_rest}
+use mathlib.Core.Path.{◌≡◌}
+use Prim.Native.Nat.{◌≤◌}
+use lib.ListN.{length}
+use borrow.Author.Rules.{rules}
 use Rattle.line_answers.proofs.Printing.{begun_more, begun_whole}
 use Rattle.line_answers.proofs.put_lines.Goals as goal
 
-pub loop-at-preserved : goal.loop-at-preserved
-loop-at-preserved c = let p = c in
-    let b = p in
-    let l = b in
-    let again = begun_more l.loop-at.invariant p.line_for.result b.loop-at-test.true (part_rest l.loop-at.at l.args.input.now) b.bytes_before-end.ensures.0 b.bytes_before-end.ensures.1 p.line_for.ensures p.put_line-n.auto.out p.put_line-n.ensures.1 in
-    rw p.put_line-n.ensures.0 again
+pub loop-rest-preserved : goal.loop-rest-preserved
+loop-rest-preserved g c =
+    let some : 1 ≤ length c.loop-rest.rest.now = search rules in
+    let more = begun_more c.loop-rest.invariant some c.parted.ensures.0 c.parted.ensures.1 (rw (← c.as_bytes.ensures) at c.line_for.ensures) c.put-n.auto.out c.put-n.ensures.1 in
+    rw c.put-n.ensures.0 more
 
 pub returns : goal.returns
-returns c = begun_whole c.loop-at.invariant c.loop-at-test.false
+returns g c =
+    let none : length c.loop-rest.rest.now ≡ 0 = search rules in
+    begun_whole c.loop-rest.invariant none

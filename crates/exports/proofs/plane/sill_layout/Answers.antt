@@ -7,9 +7,9 @@ use Rattle.answers.proofs.Telling.{tell_refused}
 use Rattle.exports.specs.Calls.{layout_tells}
 use Rattle.exports.proofs.plane.sill_layout.Goals as goal
 
-pub returns-in-Refused : goal.returns-in-Refused
-returns-in-Refused c =
+pub returns-in-Err : goal.returns-in-Err
+returns-in-Err c =
     let q = c.layout_of-q.result in
     let l = c.args.layout.now in
-    tell_refused c.in-Refused.f (stored_of q) l c.in-Refused.ensures c.lowest.ensures (sym (stored_long q))
+    tell_refused c.in-Err.f (stored_of q) l c.in-Err.ensures c.lowest.ensures (sym (stored_long q))
     ∙ ap (λ (x : Layout). layout_tells x l) c.layout_of-q.ensures

@@ -4,6 +4,7 @@ use mathlib.Core.Bool.{true, false}
 use native.Mathlib.Omega.{arith}
 use lib.Dec.{leb}
 use borrow.Author.Tests.{le-leb, lt-leb}
+use Rattle.std.proofs.lemmas.Result.{err_from_is_err_and}
 use Rattle.settings.specs.declared.refusal.Refusal.TheVariants.{NoRow, Lent}
 use Rattle.settings.specs.declared.refusal.BadLent.TheVariants.{Frame}
 use Rattle.settings.specs.Numbers.{refuse}
@@ -40,10 +41,10 @@ overflow_add-result c =
     let known : placed c.row_in.result ≡ if_done (refuse (no_row (plane_of c.args.opts c.args.part) c.args.level c.args.plane c.args.y) 19) (run_of (plane_of c.args.opts c.args.part) c.args.level c.args.plane c.args.y) no_run = let a = c.args in
     c.row_in.ensures ∙ ap (λ (q : Layout). if_done (refuse (no_row q a.level a.plane a.y) 19) (run_of q a.level a.plane a.y) no_run) c.plane_of.ensures in
     let a = c.args in
-    omega (arith, moved_le a.opts a.part a.level a.plane a.y (sym (ap placed c.in-At.is) ∙ known) (ap (λ (p : Part). p.start) c.part_of-own.ensures) c.requires (omega (arith, c.if-part-gt2.false)) refl)
+    omega (arith, moved_le a.opts a.part a.level a.plane a.y (sym (ap placed c.in_ok-run.was) ∙ known) (ap (λ (p : Part). p.start) c.part_of-own.ensures) c.requires (omega (arith, c.if-part-gt2.false)) refl)
 
-pub returns-in-At : goal.returns-in-At
-returns-in-At c =
+pub returns : goal.returns
+returns c =
     let end : c.parts_of-parts.result.length ≡ joined_end c.args.opts = ap (λ (p : Parts). p.length) c.parts_of-parts.ensures in
     let there : part_no c.args.opts c.args.len c.args.part ≡ 0 = let a = c.args in
     let some : leb 3 a.part ≡ false = lt-leb 3 a.part (omega (arith, c.if-part-gt2.false)) in
@@ -51,10 +52,10 @@ returns-in-At c =
     let known : placed c.row_in.result ≡ if_done (refuse (no_row (plane_of c.args.opts c.args.part) c.args.level c.args.plane c.args.y) 19) (run_of (plane_of c.args.opts c.args.part) c.args.level c.args.plane c.args.y) no_run = let a = c.args in
     c.row_in.ensures ∙ ap (λ (q : Layout). if_done (refuse (no_row q a.level a.plane a.y) 19) (run_of q a.level a.plane a.y) no_run) c.plane_of.ensures in
     let a = c.args in
-    placed_in a.opts a.part a.level a.plane a.y a.len (there) (moved a.opts a.part a.level a.plane a.y (sym (ap placed c.in-At.is) ∙ known) (ap (λ (p : Part). p.start) c.part_of-own.ensures))
+    placed_in a.opts a.part a.level a.plane a.y a.len (there) (moved a.opts a.part a.level a.plane a.y (sym (ap placed c.in_ok-run.was) ∙ known) (ap (λ (p : Part). p.start) c.part_of-own.ensures))
 
-pub returns-in-Refused : goal.returns-in-Refused
-returns-in-Refused c =
+pub returns-in_err-run : goal.returns-in_err-run
+returns-in_err-run c =
     let end : c.parts_of-parts.result.length ≡ joined_end c.args.opts = ap (λ (p : Parts). p.length) c.parts_of-parts.ensures in
     let there : part_no c.args.opts c.args.len c.args.part ≡ 0 = let a = c.args in
     let some : leb 3 a.part ≡ false = lt-leb 3 a.part (omega (arith, c.if-part-gt2.false)) in
@@ -62,4 +63,6 @@ returns-in-Refused c =
     let known : placed c.row_in.result ≡ if_done (refuse (no_row (plane_of c.args.opts c.args.part) c.args.level c.args.plane c.args.y) 19) (run_of (plane_of c.args.opts c.args.part) c.args.level c.args.plane c.args.y) no_run = let a = c.args in
     c.row_in.ensures ∙ ap (λ (q : Layout). if_done (refuse (no_row q a.level a.plane a.y) 19) (run_of q a.level a.plane a.y) no_run) c.plane_of.ensures in
     let a = c.args in
-    placed_in a.opts a.part a.level a.plane a.y a.len (there) (refused (refuse (no_row (plane_of a.opts a.part) a.level a.plane a.y) 19) c.in-Refused.f (run_in_of a.opts a.part a.level a.plane a.y) no_run (number_of (sym (ap placed c.in-Refused.is) ∙ known)))
+    let p = err_from_is_err_and c.from_residual.result c.from_residual.ensures.1 in
+    let r = c.in_err-run.field-0.0 in
+    rw (p.1, p.2) (placed_in a.opts a.part a.level a.plane a.y a.len (there) (refused (refuse (no_row (plane_of a.opts a.part) a.level a.plane a.y) 19) r (run_in_of a.opts a.part a.level a.plane a.y) no_run (number_of (sym (ap placed c.in_err-run.was) ∙ known))))

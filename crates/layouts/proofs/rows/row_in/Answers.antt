@@ -7,5 +7,5 @@ use Rattle.layouts.proofs.rows.row_in.Goals as goal
 
 pub down-at-requires : goal.down-at-requires
 down-at-requires c =
-    let levels = ap (λ (x : Naturals). x.levels) c.naturals-n.ensures in
-    (c.requires, omega arith, omega (arith, c.if-n-level.false, levels_le c.args.layout (allowed c.args.layout c.requires)), c.top.ensures)
+    let levels = ap (λ (x : Naturals). x.levels) c.naturals.ensures in
+    (c.requires, omega arith, omega (arith, c.if-naturals-level.false, levels_le c.args.layout (allowed c.args.layout c.requires)), c.top.ensures)

@@ -1,11 +1,9 @@
--- `number_of` meets its contract. So far the digits make the number. Assumes nothing.
-use Prim.Native.Nat.{◌≤◌, ◌-◌}
-use lib.ListN.{length}
-use Rattle.lines.proofs.Lines.{Counted}
+-- `number_of` meets its contract. So far the digits passed make the number. Assumes nothing.
+use mathlib.Core.Path.{◌≡◌}
+use Prim.Native.Nat.{◌<◌, ◌≤◌, ◌^◌}
+use lib.ListN.{length, take}
+use Rattle.lines.specs.Text.{number_of}
 use Rattle.lines.proofs.text.number_of.Given as goal
 
-abbrev pub invariant-loop-i : goal.invariant-loop-i
-invariant-loop-i l = Counted l.base l.line l.v l.i × (l.i ≤ length l.line)
-
-abbrev pub decreases-loop-i : goal.decreases-loop-i
-decreases-loop-i l = length l.line - l.i
+abbrev pub invariant-loop-b : goal.invariant-loop-b
+invariant-loop-b l = (l.v ≡ number_of l.base 0 (take l.b-index l.line)) × (l.v < 16 ^ l.b-index) × (l.b-index ≤ length l.line)

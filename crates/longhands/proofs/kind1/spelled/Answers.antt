@@ -25,8 +25,8 @@ returns c =
     let l = c.args.body.now in
     let w = c.number_2-width in
     let h = c.number_2-height in
-    let wide = to_z_pos w32 {n = w.result} (omega (arith, w.ensures.1)) in
-    let high = to_z_pos w32 {n = h.result} (omega (arith, h.ensures.1)) in
+    let wide = to_z_pos w32 {n = w.result} (omega (arith, w.type_inv)) in
+    let high = to_z_pos w32 {n = h.result} (omega (arith, h.type_inv)) in
     rw (to_z_pos w32 {n = get_or l 4 0} (omega (arith, c.shared_slice_known-3-1.given 4)), to_z_pos w32 {n = get_or l 5 0} (omega (arith, c.shared_slice_known-4-1.given 5)), wide, high)
     (rw (same c.from_bits-2.result (search rules), same c.from_bits.result (search rules), same c.levels_of.result (search rules))
-    (rw (c.from_bits-2.ensures, c.number_4-2.ensures, c.from_bits.ensures, c.number_4.ensures, c.levels_of.ensures, lowest_flag (get_or l 6 0), number_of_1 l 4 (omega (arith, c.requires)), number_of_1 l 5 (omega (arith, c.requires)), number_of_1 l 6 (omega (arith, c.requires))) (rw (wide, high, w.ensures.0, h.ensures.0))))
+    (rw (c.from_bits-2.ensures, c.number_4-2.ensures, c.from_bits.ensures, c.number_4.ensures, c.levels_of.ensures, lowest_flag (get_or l 6 0), number_of_1 l 4 (omega (arith, c.requires)), number_of_1 l 5 (omega (arith, c.requires)), number_of_1 l 6 (omega (arith, c.requires))) (rw (wide, high, w.ensures, h.ensures))))

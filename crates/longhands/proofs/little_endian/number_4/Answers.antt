@@ -4,4 +4,4 @@ use Rattle.longhands.proofs.Bytes.{number_of_4}
 use Rattle.longhands.proofs.little_endian.number_4.Goals as goal
 
 pub returns : goal.returns
-returns c = let a = c.args in omega (arith, c.number_2.ensures.0, c.number_2-2.ensures.0, number_of_4 a.bytes.now a.at c.requires)
+returns c = omega (arith, c.from_le_bytes.ensures, number_of_4 c.args.bytes.now c.args.at c.requires)

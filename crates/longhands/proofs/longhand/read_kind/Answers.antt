@@ -11,4 +11,4 @@ pub number_4-requires : goal.number_4-requires
 number_4-requires c = (whole c.args.bytes.now c.requires).field
 
 pub returns : goal.returns
-returns c = rw c.number_4.ensures (kind_unknown c.args.bytes.now c.requires (λ e. c.if-number_2-eq-KIND_1.false (c.number_2.ensures.0 ∙ e)))
+returns c = rw c.number_4.ensures (kind_unknown c.args.bytes.now c.requires (λ e. c.if-number_2-eq-KIND_1.false (c.number_2.ensures ∙ e)))

@@ -13,15 +13,15 @@ by_needs a b = rw (a, b)
 
 pub view-q-requires : goal.view-q-requires
 view-q-requires c =
-    let fine : stored_no c.args.opts c.args.layout.now ≡ 0 = sym c.tested.ensures ∙ ap tested c.in-Fine.is in
+    let fine : stored_no c.args.opts c.args.layout.now ≡ 0 = sym c.in_ok-tested.ensures in
     passed_view _ _ (passed _ _ (fine))
 
 pub spill_need-requires : goal.spill_need-requires
 spill_need-requires c =
-    let fine : stored_no c.args.opts c.args.layout.now ≡ 0 = sym c.tested.ensures ∙ ap tested c.in-Fine.is in
+    let fine : stored_no c.args.opts c.args.layout.now ≡ 0 = sym c.in_ok-tested.ensures in
     ap layout_no c.view-q.ensures ∙ (passed _ _ (fine)).layout
 
 pub scratch_need-requires : goal.scratch_need-requires
 scratch_need-requires c =
-    let fine : stored_no c.args.opts c.args.layout.now ≡ 0 = sym c.tested.ensures ∙ ap tested c.in-Fine.is in
+    let fine : stored_no c.args.opts c.args.layout.now ≡ 0 = sym c.in_ok-tested.ensures in
     ap layout_no c.view-q.ensures ∙ (passed _ _ (fine)).layout

@@ -16,7 +16,7 @@ loop-level-init c = (omega arith, walked_none, c.top-above.ensures)
 
 pub next-at-requires : goal.next-at-requires
 next-at-requires c =
-    let inside : (c.loop-level.level < levels_of c.args.layout) × (c.loop-level.level < most_levels) = let n = ap (λ (x : Naturals). x.levels) c.naturals-n.ensures in
+    let inside : (c.loop-level.level < levels_of c.args.layout) × (c.loop-level.level < most_levels) = let n = ap (λ (x : Naturals). x.levels) c.naturals-levels.ensures in
     let lt : c.loop-level.level < levels_of c.args.layout = omega (arith, n, c.loop-level-test.true) in
     (lt, omega (arith, levels_le c.args.layout (allowed c.args.layout c.requires.0))) in
     (c.requires.0, omega (arith, inside), c.loop-level.invariant.2)
@@ -30,5 +30,5 @@ pub returns : goal.returns
 unfolding cleared
 returns c =
     let s = c.args in
-    let n = ap (λ (x : Naturals). x.levels) c.naturals-n.ensures in
+    let n = ap (λ (x : Naturals). x.levels) c.naturals-levels.ensures in
     walked_whole c.loop-level.invariant.1 (omega (arith, c.loop-level-test.false)) ∙ ap (λ (k : ℕ). steps (λ i. clear_level s.layout (i + 1)) (k - 1) s.frame.now) n

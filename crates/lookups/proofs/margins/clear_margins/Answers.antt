@@ -2,6 +2,7 @@
 use mathlib.Core.Path.{◌≡◌, sym, ap, ◌∙◌}
 use native.Mathlib.Omega.{arith}
 use lib.ListN.{length}
+use Rattle.std.proofs.lemmas.Result.{err_from_is_err_and}
 use Rattle.settings.specs.declared.refusal.Refusal.TheVariants.{Lent}
 use Rattle.settings.specs.declared.refusal.BadLent.TheVariants.{Frame}
 use Rattle.settings.specs.Answers.{answer, tested}
@@ -16,16 +17,17 @@ use Rattle.lookups.specs.Refusals.{frame_no}
 use Rattle.lookups.proofs.Numbers.{frame_kept, frame_short, frame_long}
 use Rattle.lookups.proofs.margins.clear_margins.Goals as goal
 
-pub returns-in_default : goal.returns-in_default
-returns-in_default c =
+pub returns-in_err-tested : goal.returns-in_err-tested
+returns-in_err-tested c =
     let s = c.args in
     let f = s.frame.now in
-    let e = c.in_default.ensures in
-    rw c.in_default.is (refused (frame_no s.opts s.layout.now (length f)) c.in_default.field-0 (cleared (view_of s.opts s.layout.now) f) f (frame_kept s.opts s.layout.now (length f) c.in_default.field-0 e))
+    let p = err_from_is_err_and c.from_residual.result c.from_residual.ensures.1 in
+    let r = c.in_err-tested.field-0.0 in
+    rw (p.1, p.2) (refused (frame_no s.opts s.layout.now (length f)) r (cleared (view_of s.opts s.layout.now) f) f (frame_kept s.opts s.layout.now (length f) r c.in_err-tested.ensures))
 
 pub returns-then-frame-end : goal.returns-then-frame-end
 returns-then-frame-end c =
-    let fine : stored_no c.args.opts c.args.layout.now ≡ 0 = sym c.tested-t.ensures ∙ ap tested c.in-Fine.is in
+    let fine : stored_no c.args.opts c.args.layout.now ≡ 0 = sym c.in_ok-tested.ensures in
     let ends : c.end.result ≡ written_end (view_of c.args.opts c.args.layout.now) = c.end.ensures in
     let s = c.args in
     let f = s.frame.now in
@@ -33,18 +35,18 @@ returns-then-frame-end c =
 
 pub view-requires : goal.view-requires
 view-requires c =
-    let fine : stored_no c.args.opts c.args.layout.now ≡ 0 = sym c.tested-t.ensures ∙ ap tested c.in-Fine.is in
+    let fine : stored_no c.args.opts c.args.layout.now ≡ 0 = sym c.in_ok-tested.ensures in
     passed_view _ _ (passed _ _ (fine))
 
 pub clear_levels-requires : goal.clear_levels-requires
 clear_levels-requires c =
-    let fine : stored_no c.args.opts c.args.layout.now ≡ 0 = sym c.tested-t.ensures ∙ ap tested c.in-Fine.is in
+    let fine : stored_no c.args.opts c.args.layout.now ≡ 0 = sym c.in_ok-tested.ensures in
     let ends : c.end.result ≡ written_end (view_of c.args.opts c.args.layout.now) = c.end.ensures in
     rw c.view.ensures ((passed _ _ (fine)).layout, omega (arith, ends, c.if-frame-end.false))
 
 pub returns : goal.returns
 returns c =
-    let fine : stored_no c.args.opts c.args.layout.now ≡ 0 = sym c.tested-t.ensures ∙ ap tested c.in-Fine.is in
+    let fine : stored_no c.args.opts c.args.layout.now ≡ 0 = sym c.in_ok-tested.ensures in
     let ends : c.end.result ≡ written_end (view_of c.args.opts c.args.layout.now) = c.end.ensures in
     let s = c.args in
     let f = s.frame.now in

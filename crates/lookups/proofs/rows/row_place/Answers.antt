@@ -1,4 +1,5 @@
 -- `row_place` meets its contract. Assumes nothing.
+use Rattle.std.proofs.lemmas.Result.{err_from_is_err_and}
 use Rattle.settings.proofs.Known.{refused}
 use Rattle.layouts.specs.Answers.{run_of, no_run}
 use Rattle.stored.specs.Layout.{view_of}
@@ -6,8 +7,10 @@ use Rattle.lookups.specs.Refusals.{row_no}
 use Rattle.lookups.proofs.Numbers.{frame_kept, row_kept}
 use Rattle.lookups.proofs.rows.row_place.Goals as goal
 
-pub returns-in-Refused : goal.returns-in-Refused
-returns-in-Refused c =
+pub returns-in_err-tested : goal.returns-in_err-tested
+returns-in_err-tested c =
     let s = c.args in
-    let e = c.in-Refused.ensures in
-    refused (row_no s.opts s.layout.now s.len s.level s.plane s.y) c.in-Refused.f (run_of (view_of s.opts s.layout.now) s.level s.plane s.y) no_run (row_kept s.opts s.layout.now s.len c.in-Refused.f s.level s.plane s.y (frame_kept s.opts s.layout.now s.len c.in-Refused.f e))
+    let p = err_from_is_err_and c.from_residual.result c.from_residual.ensures.1 in
+    let r = c.in_err-tested.field-0.0 in
+    let e = c.in_err-tested.ensures in
+    rw (p.1, p.2) (refused (row_no s.opts s.layout.now s.len s.level s.plane s.y) r (run_of (view_of s.opts s.layout.now) s.level s.plane s.y) no_run (row_kept s.opts s.layout.now s.len r s.level s.plane s.y (frame_kept s.opts s.layout.now s.len r e)))

@@ -9,10 +9,10 @@ use Rattle.planes.proofs.build.build_plane_by.Goals as goal
 
 pub view-q-requires : goal.view-q-requires
 view-q-requires c =
-    let passed : plane_no c.args.opts c.args.layout.now c.args.src.now c.args.src_pitch c.args.frame.now c.args.spill.now c.args.scratch.now ≡ 0 = sym c.build_tested-t.ensures ∙ ap tested c.in-Fine.is in
+    let passed : plane_no c.args.opts c.args.layout.now c.args.src.now c.args.src_pitch c.args.frame.now c.args.spill.now c.args.scratch.now ≡ 0 = sym c.in_ok-build_tested.ensures in
     passed_view _ _ (fine _ _ (build_stored _ _ _ _ _ _ _ (passed)))
 
 pub build_spilled-requires : goal.build_spilled-requires
 build_spilled-requires c =
-    let passed : plane_no c.args.opts c.args.layout.now c.args.src.now c.args.src_pitch c.args.frame.now c.args.spill.now c.args.scratch.now ≡ 0 = sym c.build_tested-t.ensures ∙ ap tested c.in-Fine.is in
+    let passed : plane_no c.args.opts c.args.layout.now c.args.src.now c.args.src_pitch c.args.frame.now c.args.spill.now c.args.scratch.now ≡ 0 = sym c.in_ok-build_tested.ensures in
     rw c.view-q.ensures (ready_stored _ _ _ _ _ _ _ (passed))

@@ -21,7 +21,7 @@ loop-y-init c = walked_none
 
 pub overflow_mul-y : goal.overflow_mul-y
 overflow_mul-y c =
-    let full : c.args.layout.opts.full ≡ true = not-false c.args.layout.opts.full c.if-not-opts.false in
+    let full : c.args.layout.opts.full ≡ true = not-false c.args.layout.opts.full c.if-not-layout.false in
     let rows : (c.loop-y.y * c.args.layout.pitch + c.width-w.result ≤ length c.loop-y.frame) × (c.loop-y.y * c.args.src_pitch + c.width-w.result ≤ length c.args.src.now) = let q = c.args.layout in
     let y = c.loop-y.y in
     let lt : y < height_at q 0 = omega (arith, c.loop-y-test.true, c.height-h.ensures) in
@@ -32,7 +32,7 @@ overflow_mul-y c =
 
 pub source_row-requires : goal.source_row-requires
 source_row-requires c =
-    let full : c.args.layout.opts.full ≡ true = not-false c.args.layout.opts.full c.if-not-opts.false in
+    let full : c.args.layout.opts.full ≡ true = not-false c.args.layout.opts.full c.if-not-layout.false in
     let rows : (c.loop-y.y * c.args.layout.pitch + c.width-w.result ≤ length c.loop-y.frame) × (c.loop-y.y * c.args.src_pitch + c.width-w.result ≤ length c.args.src.now) = let q = c.args.layout in
     let y = c.loop-y.y in
     let lt : y < height_at q 0 = omega (arith, c.loop-y-test.true, c.height-h.ensures) in
@@ -43,7 +43,7 @@ source_row-requires c =
 
 pub put-requires : goal.put-requires
 put-requires c =
-    let full : c.args.layout.opts.full ≡ true = not-false c.args.layout.opts.full c.if-not-opts.false in
+    let full : c.args.layout.opts.full ≡ true = not-false c.args.layout.opts.full c.if-not-layout.false in
     let rows : (c.loop-y.y * c.args.layout.pitch + c.width-w.result ≤ length c.loop-y.frame) × (c.loop-y.y * c.args.src_pitch + c.width-w.result ≤ length c.args.src.now) = let q = c.args.layout in
     let y = c.loop-y.y in
     let lt : y < height_at q 0 = omega (arith, c.loop-y-test.true, c.height-h.ensures) in
@@ -62,7 +62,7 @@ loop-y-preserved c =
 pub returns : goal.returns
 unfolding copied
 returns c =
-    let full : c.args.layout.opts.full ≡ true = not-false c.args.layout.opts.full c.if-not-opts.false in
+    let full : c.args.layout.opts.full ≡ true = not-false c.args.layout.opts.full c.if-not-layout.false in
     let a = c.args in
     let q = a.layout in
     let F = a.frame.now in

@@ -21,17 +21,17 @@ returns-then-fuse-fuses c =
     by_fused _ s.0 _ s.1 s.2 s.3 s.4 _ _ _ _ _ refl (test c.args.fuse c.fuses.result c.fuses.ensures ∙ c.if-fuse-fuses.true) c.reduce_cubic.ensures
 
 pub reduce_within-requires : goal.reduce_within-requires
-reduce_within-requires c = let s = c.requires in within_here _ s.0 _ s.1 s.2 s.3 s.4 c.if-opts-level.true
+reduce_within-requires c = let s = c.requires in within_here _ s.0 _ s.1 s.2 s.3 s.4 c.if-layout-level.true
 
-pub returns-then-opts-level : goal.returns-then-opts-level
-returns-then-opts-level c =
+pub returns-then-layout-level : goal.returns-then-layout-level
+returns-then-layout-level c =
     let s = c.requires in
-    by_stored _ s.0 _ s.1 s.2 s.3 s.4 _ _ _ _ _ refl (test c.args.fuse c.fuses.result c.fuses.ensures ∙ c.if-fuse-fuses.false) c.if-opts-level.true c.reduce_within.ensures
+    by_stored _ s.0 _ s.1 s.2 s.3 s.4 _ _ _ _ _ refl (test c.args.fuse c.fuses.result c.fuses.ensures ∙ c.if-fuse-fuses.false) c.if-layout-level.true c.reduce_within.ensures
 
 pub reduce_separate-requires : goal.reduce_separate-requires
-reduce_separate-requires c = let s = c.requires in spread_here _ s.0 _ s.1 s.2 s.3 s.4 c.if-opts-level.false
+reduce_separate-requires c = let s = c.requires in spread_here _ s.0 _ s.1 s.2 s.3 s.4 c.if-layout-level.false
 
 pub returns : goal.returns
 returns c =
     let s = c.requires in
-    by_source _ s.0 _ s.1 s.2 s.3 s.4 _ _ _ c.args.frame.now c.args.spill.now refl (test c.args.fuse c.fuses.result c.fuses.ensures ∙ c.if-fuse-fuses.false) c.if-opts-level.false c.reduce_separate.ensures
+    by_source _ s.0 _ s.1 s.2 s.3 s.4 _ _ _ c.args.frame.now c.args.spill.now refl (test c.args.fuse c.fuses.result c.fuses.ensures ∙ c.if-fuse-fuses.false) c.if-layout-level.false c.reduce_separate.ensures

@@ -19,7 +19,7 @@ loop-level-init c = (omega arith, passed_none, c.top-above.ensures)
 
 pub next-at-requires : goal.next-at-requires
 next-at-requires c =
-    let inside : (c.loop-level.level < levels_of c.args.layout) × (c.loop-level.level < most_levels) = let n = ap (λ (x : Naturals). x.levels) c.naturals-n.ensures in
+    let inside : (c.loop-level.level < levels_of c.args.layout) × (c.loop-level.level < most_levels) = let n = ap (λ (x : Naturals). x.levels) c.naturals-levels.ensures in
     let lt : c.loop-level.level < levels_of c.args.layout = omega (arith, n, c.loop-level-test.true) in
     (lt, omega (arith, levels_le c.args.layout (allowed c.args.layout c.requires.layout))) in
     (c.requires.layout, omega (arith, inside), c.loop-level.invariant.2)
@@ -35,6 +35,6 @@ pub returns : goal.returns
 unfolding halved_by
 returns c =
     let a = c.args in
-    let n = ap (λ (x : Naturals). x.levels) c.naturals-n.ensures in
+    let n = ap (λ (x : Naturals). x.levels) c.naturals-levels.ensures in
     walked_whole c.loop-level.invariant.1.walk (omega (arith, c.loop-level-test.false))
     ∙ ap (λ (k : ℕ). steps (λ i. level_by a.fuse a.layout a.src.now a.src_pitch (length a.frame.now) a.filter (i + 1)) (k - 1) (a.frame.now ++ a.spill.now)) n

@@ -2,7 +2,8 @@
 use mathlib.Core.Path.{sym, ap, ◌∙◌}
 use mathlib.Core.List.{◌++◌}
 use lib.ListN.{length}
-use Rattle.filters.specs.declared.halving.Chosen.{Chosen}
+use Rattle.filters.specs.declared.halving.ReduceFilter.{ReduceFilter}
+use Rattle.std.specs.declared.option.Option.{Option}
 use Rattle.filters.specs.Halve.{chosen}
 use mir.Facts.{to_z-of_z}
 use mir.Val.{SFits}
@@ -17,4 +18,4 @@ returns-in_default c =
     let down : SFits w32 c.args.layout.opts.scale_down = search rules in
     let a = c.args in
     let none = sym (c.from_option.ensures ∙ ap chosen (to_z-of_z (down))) ∙ c.in_default.is in
-    sym (ap (λ (k : Chosen). halved_by a.fuse a.layout a.src.now a.src_pitch (length a.frame.now) k (a.frame.now ++ a.spill.now)) none)
+    sym (ap (λ (k : Option ReduceFilter). halved_by a.fuse a.layout a.src.now a.src_pitch (length a.frame.now) k (a.frame.now ++ a.spill.now)) none)

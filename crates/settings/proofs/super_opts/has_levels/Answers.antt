@@ -14,7 +14,7 @@ some zero w h least not e = absurd (not refl)
 some (suc n) w h least not e = rw (e, add-one) (sym (levels_some n w h))
 
 pub returns-then-levels-eq0 : goal.returns-then-levels-eq0
-returns-then-levels-eq0 c = let a = c.args in ap (λ (x : ℕ). ltb x 4) c.shorter-least.ensures ∙ sym (levels_none a.width a.height) ∙ ap (λ (x : ℕ). eqb x (auto_levels a.width a.height)) (sym c.if-levels-eq0.true)
+returns-then-levels-eq0 c = let a = c.args in ap (λ (x : ℕ). ltb x 4) c.min-least.ensures ∙ sym (levels_none a.width a.height) ∙ ap (λ (x : ℕ). eqb x (auto_levels a.width a.height)) (sym c.if-levels-eq0.true)
 
 pub returns-then-levels-gt30 : goal.returns-then-levels-gt30
 returns-then-levels-gt30 c =
@@ -22,4 +22,4 @@ returns-then-levels-gt30 c =
     sym (ne_eqb a.levels (auto_levels a.width a.height) (λ e. omega (arith, levels_small 30 a.width a.width a.height (omega arith))))
 
 pub returns : goal.returns
-returns c = let a = c.args in some a.levels a.width a.height c.shorter-least.result c.if-levels-eq0.false c.shorter-least.ensures
+returns c = let a = c.args in some a.levels a.width a.height c.min-least.result c.if-levels-eq0.false c.min-least.ensures

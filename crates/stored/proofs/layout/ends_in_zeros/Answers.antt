@@ -3,24 +3,23 @@ use mathlib.Core.Bool.{true, false}
 use mathlib.Core.Logic.{⊎_elim}
 use Prim.Native.Nat.{ℕ, ◌≤◌, ◌<◌}
 use native.Mathlib.Omega.{arith}
-use borrow.Author.Tests.{not-true}
 use Rattle.settings.specs.Limits.{most_levels}
 use Rattle.filters.proofs.Tests.{below_or}
 use Rattle.layouts.specs.declared.layout.Region.{Region}
 use Rattle.layouts.specs.Layout.{no_region}
 use Rattle.layouts.proofs.Layouts.{region_none}
 use Rattle.stored.specs.Inner.{region_in, same_region, same_at}
-use Rattle.stored.proofs.Exact.{every_yes, every_at, every_no}
+use Rattle.stored.proofs.Exact.{apart, every_yes, every_at, every_no}
 use Rattle.stored.proofs.layout.ends_in_zeros.Goals as goal
 
-pub returns-then-not-same_region : goal.returns-then-not-same_region
-returns-then-not-same_region c =
-    let found : c.same_region.result ≡ same_region (region_in c.args.numbers.now c.loop-level.level) no_region = c.same_region.ensures ∙ ap (λ (x : Region). same_region x no_region) c.region_in.ensures in
-    let l = c.loop-level in
+pub returns-then-ne : goal.returns-then-ne
+returns-then-ne c =
+    let numbers = c.args.numbers.now in
     let q = c.args.layout in
+    let l = c.loop-level in
     let none = region_none q l.level (omega (arith, c.requires.1, l.invariant.0)) in
-    let other : same_at q c.args.numbers.now l.level ≡ false = ap (same_region (region_in c.args.numbers.now l.level)) none ∙ sym (found) ∙ not-true c.same_region.result c.if-not-same_region.true-raw in
-    sym (every_no (same_at q c.args.numbers.now) most_levels l.level (omega (arith, c.loop-level-test.true)) other)
+    let other : same_at q numbers l.level ≡ false = ap (same_region (region_in numbers l.level)) none ∙ ap (λ (x : Region). same_region x no_region) (sym c.region_in.ensures) ∙ apart c.region_in.result no_region (sym c.ne.ensures ∙ c.if-ne.true) in
+    sym (every_no (same_at q numbers) most_levels l.level (omega (arith, c.loop-level-test.true)) other)
 
 pub returns : goal.returns
 returns c =

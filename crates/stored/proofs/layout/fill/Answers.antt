@@ -12,7 +12,7 @@ use Rattle.stored.proofs.layout.fill.Goals as goal
 
 pub bounds-numbers-i : goal.bounds-numbers-i
 bounds-numbers-i c =
-    let few : (c.naturals-n.result.levels ≡ levels_of c.args.layout) × (levels_of c.args.layout ≤ most_levels) = let s = c in (ap (λ (x : Naturals). x.levels) c.naturals-n.ensures, levels_le s.args.layout (allowed s.args.layout s.requires.0)) in
+    let few : (c.naturals-levels.result.levels ≡ levels_of c.args.layout) × (levels_of c.args.layout ≤ most_levels) = let s = c in (ap (λ (x : Naturals). x.levels) c.naturals-levels.ensures, levels_le s.args.layout (allowed s.args.layout s.requires.0)) in
     let inside : (c.loop-level.level < levels_of c.args.layout) × (c.loop-level.level < most_levels) = let n = few in
     let lt : c.loop-level.level < levels_of c.args.layout = omega (arith, n.0, c.loop-level-test.true) in
     (lt, omega (arith, n.1)) in
@@ -20,7 +20,7 @@ bounds-numbers-i c =
 
 pub bounds-numbers-i-in-loop-level : goal.bounds-numbers-i-in-loop-level
 bounds-numbers-i-in-loop-level c =
-    let few : (c.naturals-n.result.levels ≡ levels_of c.args.layout) × (levels_of c.args.layout ≤ most_levels) = let s = c in (ap (λ (x : Naturals). x.levels) c.naturals-n.ensures, levels_le s.args.layout (allowed s.args.layout s.requires.0)) in
+    let few : (c.naturals-levels.result.levels ≡ levels_of c.args.layout) × (levels_of c.args.layout ≤ most_levels) = let s = c in (ap (λ (x : Naturals). x.levels) c.naturals-levels.ensures, levels_le s.args.layout (allowed s.args.layout s.requires.0)) in
     let inside : (c.loop-level.level < levels_of c.args.layout) × (c.loop-level.level < most_levels) = let n = few in
     let lt : c.loop-level.level < levels_of c.args.layout = omega (arith, n.0, c.loop-level-test.true) in
     (lt, omega (arith, n.1)) in
@@ -28,7 +28,7 @@ bounds-numbers-i-in-loop-level c =
 
 pub bounds-numbers-i-in-loop-level-2 : goal.bounds-numbers-i-in-loop-level-2
 bounds-numbers-i-in-loop-level-2 c =
-    let few : (c.naturals-n.result.levels ≡ levels_of c.args.layout) × (levels_of c.args.layout ≤ most_levels) = let s = c in (ap (λ (x : Naturals). x.levels) c.naturals-n.ensures, levels_le s.args.layout (allowed s.args.layout s.requires.0)) in
+    let few : (c.naturals-levels.result.levels ≡ levels_of c.args.layout) × (levels_of c.args.layout ≤ most_levels) = let s = c in (ap (λ (x : Naturals). x.levels) c.naturals-levels.ensures, levels_le s.args.layout (allowed s.args.layout s.requires.0)) in
     let inside : (c.loop-level.level < levels_of c.args.layout) × (c.loop-level.level < most_levels) = let n = few in
     let lt : c.loop-level.level < levels_of c.args.layout = omega (arith, n.0, c.loop-level-test.true) in
     (lt, omega (arith, n.1)) in
@@ -36,7 +36,7 @@ bounds-numbers-i-in-loop-level-2 c =
 
 pub next-at-requires : goal.next-at-requires
 next-at-requires c =
-    let few : (c.naturals-n.result.levels ≡ levels_of c.args.layout) × (levels_of c.args.layout ≤ most_levels) = let s = c in (ap (λ (x : Naturals). x.levels) c.naturals-n.ensures, levels_le s.args.layout (allowed s.args.layout s.requires.0)) in
+    let few : (c.naturals-levels.result.levels ≡ levels_of c.args.layout) × (levels_of c.args.layout ≤ most_levels) = let s = c in (ap (λ (x : Naturals). x.levels) c.naturals-levels.ensures, levels_le s.args.layout (allowed s.args.layout s.requires.0)) in
     let inside : (c.loop-level.level < levels_of c.args.layout) × (c.loop-level.level < most_levels) = let n = few in
     let lt : c.loop-level.level < levels_of c.args.layout = omega (arith, n.0, c.loop-level-test.true) in
     (lt, omega (arith, n.1)) in
@@ -44,7 +44,7 @@ next-at-requires c =
 
 pub loop-level-preserved : goal.loop-level-preserved
 loop-level-preserved c =
-    let few : (c.naturals-n.result.levels ≡ levels_of c.args.layout) × (levels_of c.args.layout ≤ most_levels) = let s = c in (ap (λ (x : Naturals). x.levels) c.naturals-n.ensures, levels_le s.args.layout (allowed s.args.layout s.requires.0)) in
+    let few : (c.naturals-levels.result.levels ≡ levels_of c.args.layout) × (levels_of c.args.layout ≤ most_levels) = let s = c in (ap (λ (x : Naturals). x.levels) c.naturals-levels.ensures, levels_le s.args.layout (allowed s.args.layout s.requires.0)) in
     let inside : (c.loop-level.level < levels_of c.args.layout) × (c.loop-level.level < most_levels) = let n = few in
     let lt : c.loop-level.level < levels_of c.args.layout = omega (arith, n.0, c.loop-level-test.true) in
     (lt, omega (arith, n.1)) in
@@ -55,7 +55,7 @@ loop-level-preserved c =
 
 pub returns : goal.returns
 returns c =
-    let few : (c.naturals-n.result.levels ≡ levels_of c.args.layout) × (levels_of c.args.layout ≤ most_levels) = let s = c in (ap (λ (x : Naturals). x.levels) c.naturals-n.ensures, levels_le s.args.layout (allowed s.args.layout s.requires.0)) in
+    let few : (c.naturals-levels.result.levels ≡ levels_of c.args.layout) × (levels_of c.args.layout ≤ most_levels) = let s = c in (ap (λ (x : Naturals). x.levels) c.naturals-levels.ensures, levels_le s.args.layout (allowed s.args.layout s.requires.0)) in
     let l = c.loop-level in
     let q = c.args.layout in
     let n = few in

@@ -24,16 +24,16 @@ returns-then-bad_pitch c =
     let s = c in
     rw (layout_by_pitch s.args.opts s.args.numbers.now s.requires (shape), pitch ∙ c.if-bad_pitch.true) refl
 
-pub returns-then-numbers-n : goal.returns-then-numbers-n
+pub returns-then-numbers-naturals : goal.returns-then-numbers-naturals
 unfolding is_stored keeps
-returns-then-numbers-n c =
+returns-then-numbers-naturals c =
     let shape : has_view c.args.numbers.now ≡ true = sym c.has_view.ensures ∙ not-false c.has_view.result c.if-not-has_view.false-raw in
     let long : length c.args.numbers.now ≡ most_numbers = (shaped c.args.numbers.now (shape)).long in
     let pitch : bad_pitch (view_of c.args.opts c.args.numbers.now).pitch (least_pitch (view_of c.args.opts c.args.numbers.now)) ≡ c.bad_pitch.result = ap (λ (q : Layout). bad_pitch q.pitch (least_pitch q)) (sym c.view-layout.ensures) ∙ ap (bad_pitch c.view-layout.result.pitch) (sym c.least_pitch.ensures) ∙ sym c.bad_pitch.ensures in
     let none : layout_no (view_of c.args.opts c.args.numbers.now) ≡ 0 = let s = c in rw (layout_by_pitch s.args.opts s.args.numbers.now s.requires (shape), pitch ∙ c.if-bad_pitch.false) refl in
     let s = c.args in
-    let n = ap (λ (x : Naturals). x.levels) c.naturals-n.ensures in
-    rw (none, sym (by_levels s.opts s.numbers.now (long)), ne_eqb _ _ (λ e. c.if-numbers-n.true (e ∙ sym n))) refl
+    let n = ap (λ (x : Naturals). x.levels) c.naturals.ensures in
+    rw (none, sym (by_levels s.opts s.numbers.now (long)), ne_eqb _ _ (λ e. c.if-numbers-naturals.true (e ∙ sym n))) refl
 
 pub has_regions-requires : goal.has_regions-requires
 has_regions-requires c =
@@ -51,5 +51,5 @@ returns c =
     let pitch : bad_pitch (view_of c.args.opts c.args.numbers.now).pitch (least_pitch (view_of c.args.opts c.args.numbers.now)) ≡ c.bad_pitch.result = ap (λ (q : Layout). bad_pitch q.pitch (least_pitch q)) (sym c.view-layout.ensures) ∙ ap (bad_pitch c.view-layout.result.pitch) (sym c.least_pitch.ensures) ∙ sym c.bad_pitch.ensures in
     let none : layout_no (view_of c.args.opts c.args.numbers.now) ≡ 0 = let s = c in rw (layout_by_pitch s.args.opts s.args.numbers.now s.requires (shape), pitch ∙ c.if-bad_pitch.false) refl in
     let s = c.args in
-    let n = ap (λ (x : Naturals). x.levels) c.naturals-n.ensures in
-    rw (none, sym (by_levels s.opts s.numbers.now (long)), eq-eqb _ _ (c.if-numbers-n.false ∙ n), sym c.view-layout.ensures) c.has_regions.ensures
+    let n = ap (λ (x : Naturals). x.levels) c.naturals.ensures in
+    rw (none, sym (by_levels s.opts s.numbers.now (long)), eq-eqb _ _ (c.if-numbers-naturals.false ∙ n), sym c.view-layout.ensures) c.has_regions.ensures

@@ -1,0 +1,2 @@
+-- What words of a case make.
+pub mod Cases

@@ -1,8 +1,0 @@
--- `bytes_4` meets its contract. Assumes nothing.
-use mathlib.Core.Path.{refl}
-use Rattle.longhands.specs.LittleEndian.{little_endian}
-use Rattle.longhands.proofs.little_endian.bytes_4.Goals as goal
-
-pub returns : goal.returns
-unfolding little_endian
-returns c = refl
