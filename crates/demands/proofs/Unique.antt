@@ -37,8 +37,8 @@ use Rattle.lookups.proofs.margins.clear_margins.Reads as clear_margins_reads
 use Rattle.settings.proofs.super_opts.levels_of.Reads as levels_of_reads
 use Rattle.settings.proofs.super_opts.reduce_once.Reads as reduce_once_reads
 use Rattle.settings.proofs.super_opts.SuperOpts.accepted_but_levels.Reads as accepted_but_levels_reads
-use Rattle.settings.proofs.super_opts.SuperOpts.accepted_height.Reads as accepted_height_reads
-use Rattle.settings.proofs.super_opts.SuperOpts.accepted_width.Reads as accepted_width_reads
+use Rattle.settings.proofs.record.Accepted.super_height.Reads as accepted_height_reads
+use Rattle.settings.proofs.record.Accepted.super_width.Reads as accepted_width_reads
 use Rattle.layouts.proofs.levels.width.Reads as width_reads
 use Rattle.layouts.proofs.levels.height.Reads as height_reads
 use Rattle.layouts.proofs.levels.offset.Reads as offset_reads
@@ -71,7 +71,7 @@ use Rattle.planes.proofs.Whole.{one_left}
 use Rattle.planes.proofs.build.build_spilled.Reads as build_spilled_reads
 use Rattle.planes.proofs.build.build_plane.Reads as build_plane_reads
 use Rattle.planes.proofs.build.build_plane_by.Reads as build_plane_by_reads
-pub use Rattle.settings.proofs.Unique.{from_opt_unique, accepted_unique, pack_data_unique, super_height_unique, super_width_unique, read_word_unique, prepare_alike_unique, reduce_dim_unique, naturals_unique, number_unique, refuse_if_unique, natural_unique, bit_unique, to_bits_unique, from_bits_unique}
+pub use Rattle.settings.proofs.Unique.{from_opt_unique, accepted_unique, as_accepted_unique, pack_data_unique, super_height_unique, super_width_unique, read_word_unique, prepare_alike_unique, reduce_dim_unique, naturals_unique, number_unique, refuse_if_unique, natural_unique, bit_unique, to_bits_unique, from_bits_unique}
 pub use Rattle.longhands.proofs.Unique.{read_longhand_unique, write_longhand_unique}
 
 -- ---- the rows of `filters`

@@ -88,9 +88,8 @@ pub extern "C" fn sill_prepare_alike(a: u64, b: u64) -> u32
 pub extern "C" fn sill_super_sizes(fields: &[i32], sizes: &mut [i32]) -> u32
     ensures { answer result sizes.new ≡ sizes_tells (record_of fields.now) sizes.old }
 {
-    let opts = record_of(fields);
-    if !opts.accepted() {
-        return lowest(Refusal::NoRecord, sizes.len(), 2);
+    match record_of(fields).as_accepted() {
+        Ok(record) => put(sizes, &[record.super_width(), record.super_height()]),
+        Err(f) => lowest(f, sizes.len(), 2),
     }
-    put(sizes, &[opts.accepted_width(), opts.accepted_height()])
 }

@@ -1,12 +1,14 @@
 -- One outcome: no second answer meets the contract of a public call (`OneOutcome`), by one law (`determined`). What is seen of a call is its answer. Assumes nothing.
 use contract.Lifetimes.{Lfts}
 use lib.IntN.{pos}
+use Rattle.settings.specs.Inner.{plainly}
 use Rattle.settings.specs.Answers.{no_record, no_description}
 use Rattle.settings.proofs.super_opts.SuperOpts.from_opt.Reads as from_opt_reads
 use Rattle.settings.proofs.super_opts.SuperOpts.pack_data.Reads as pack_data_reads
 use Rattle.settings.proofs.super_opts.SuperOpts.super_height.Reads as super_height_reads
 use Rattle.settings.proofs.super_opts.SuperOpts.super_width.Reads as super_width_reads
 use Rattle.settings.proofs.super_opts.SuperOpts.accepted.Reads as accepted_reads
+use Rattle.settings.proofs.super_opts.SuperOpts.as_accepted.Reads as as_accepted_reads
 use Rattle.settings.proofs.super_opts.SuperOpts.naturals.Reads as naturals_reads
 use Rattle.settings.proofs.refusal.Refusal.number.Reads as number_reads
 use Rattle.settings.proofs.refusal.refuse_if.Reads as refuse_if_reads
@@ -34,6 +36,10 @@ super_width_unique κs x r s e f p q = determined (outcome_known (pos 0)) p q
 
 pub accepted_unique : (κs : Lfts 0) → OneOutcome (accepted_reads.Post κs) (λ r e. r)
 accepted_unique κs x r s e f p q = determined itself p q
+
+-- the record, or the refusal
+pub as_accepted_unique : (κs : Lfts 0) → OneOutcome (as_accepted_reads.Post κs) (λ r e. plainly r)
+as_accepted_unique κs x r s e f p q = determined (outcome_known x.0) p q
 
 pub naturals_unique : (κs : Lfts 0) → OneOutcome (naturals_reads.Post κs) (λ r e. r)
 naturals_unique κs x r s e f p q = determined itself p q

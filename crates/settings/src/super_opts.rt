@@ -4,13 +4,14 @@ ghost use Rattle.std.specs.Prelude.{◌≡◌, true, cond, not, ◌+◌, ◌*◌
 ghost use Rattle.settings.specs.Limits.{most_side, most_levels};
 ghost use Rattle.settings.specs.Numbers.{is_nat, to_nat, bit};
 ghost use Rattle.settings.specs.Sizes.{reduce, reduced, auto_levels};
-ghost use Rattle.settings.specs.Check.{up_by, settled, is_pel, is_gpu, no_finest, bad_lean, is_side, settings_no, naturals_of, accepted, upward, raised_to_even, full_height, packed_height, super_height, super_width};
-ghost use Rattle.settings.specs.Inner.{accepted_but_levels};
+ghost use Rattle.settings.specs.Check.{up_by, settled, is_pel, is_gpu, no_finest, bad_lean, is_side, settings_no, naturals_of, accepted, record_no, upward, raised_to_even, full_height, packed_height, super_height, super_width};
+ghost use Rattle.settings.specs.Inner.{accepted_but_levels, plainly};
 ghost use Rattle.settings.specs.Word.{word_of};
-ghost use Rattle.settings.specs.Answers.{tested, checked, check_answer, packed, pack_answer, sized, height_answer, width_answer};
+ghost use Rattle.settings.specs.Answers.{answer, outcome, tested, checked, check_answer, packed, pack_answer, sized, height_answer, width_answer};
 
 use crate::limits::{MOST_PACKED, MOST_SIDE};
 use crate::numbers::{bit, natural};
+use crate::record::Accepted;
 use crate::refusal::{BadSetting, Refusal, refuse_if};
 
 const DEFAULT_SCALE_DOWN: i32 = 4;
@@ -170,32 +171,24 @@ impl SuperOpts {
         }
     }
 
-    pub fn pack_data(self) -> Result<u64, Refusal>
-        ensures { packed result ≡ pack_answer self }
+    // This record as one that passed its test. Refusal 6.
+    pub fn as_accepted(self) -> Result<Accepted, Refusal>
+        ensures { outcome self (plainly result) ≡ answer (record_no self) self }
     {
         if !self.accepted() {
             return Err(Refusal::NoRecord);
         }
+        Ok(Accepted { opts: self })
+    }
+
+    pub fn pack_data(self) -> Result<u64, Refusal>
+        ensures { packed result ≡ pack_answer self }
+    {
+        let record = self.as_accepted()?;
         if natural(self.levels) > MOST_PACKED {
             return Err(Refusal::Levels);
         }
-        Ok(self.word())
-    }
-
-    fn word(self) -> u64
-        requires { accepted self ≡ true }
-        ensures { result ≡ word_of self }
-    {
-        let n = self.naturals();
-        let levels = n.levels as u64 + self.level_flags();
-        joined(
-            n.height as u64,
-            n.width as u64,
-            n.pel as u64,
-            levels,
-            n.gpu as u64,
-            self.flags(),
-        )
+        Ok(record.word())
     }
 
     fn level_flags(self) -> u64
@@ -213,41 +206,51 @@ impl SuperOpts {
     pub fn super_height(self) -> Result<i32, Refusal>
         ensures { sized result ≡ height_answer self }
     {
-        if !self.accepted() {
-            return Err(Refusal::NoRecord);
-        }
-        Ok(self.accepted_height())
+        let record = self.as_accepted()?;
+        Ok(record.super_height())
     }
 
     pub fn super_width(self) -> Result<i32, Refusal>
         ensures { sized result ≡ width_answer self }
     {
-        if !self.accepted() {
-            return Err(Refusal::NoRecord);
-        }
-        Ok(self.accepted_width())
+        let record = self.as_accepted()?;
+        Ok(record.super_width())
+    }
+}
+
+impl Accepted {
+    fn word(self) -> u64
+        ensures { result ≡ word_of self.opts }
+    {
+        let n = self.opts.naturals();
+        let levels = n.levels as u64 + self.opts.level_flags();
+        joined(
+            n.height as u64,
+            n.width as u64,
+            n.pel as u64,
+            levels,
+            n.gpu as u64,
+            self.opts.flags(),
+        )
     }
 
-    // The super sizes of an accepted record: for calls that have tested it.
-    pub fn accepted_height(self) -> i32
-        requires { accepted self ≡ true }
-        ensures { result ≡ pos (super_height self) }
+    pub fn super_height(self) -> i32
+        ensures { result ≡ pos (super_height self.opts) }
     {
-        if self.lean {
+        if self.opts.lean {
             return 2;
         }
-        let n = self.naturals();
-        super_plane_height(n.width, n.height, n.pel, n.levels, self.full) as i32
+        let n = self.opts.naturals();
+        super_plane_height(n.width, n.height, n.pel, n.levels, self.opts.full) as i32
     }
 
-    pub fn accepted_width(self) -> i32
-        requires { accepted self ≡ true }
-        ensures { result ≡ pos (super_width self) }
+    pub fn super_width(self) -> i32
+        ensures { result ≡ pos (super_width self.opts) }
     {
-        if self.full {
-            return self.width;
+        if self.opts.full {
+            return self.opts.width;
         }
-        reduce_dim(natural(self.width), 1) as i32
+        reduce_dim(natural(self.opts.width), 1) as i32
     }
 }
 
@@ -317,7 +320,7 @@ fn has_levels(levels: u32, width: u32, height: u32) -> bool
     least >> (levels + 1) == 1
 }
 
-// Of a record that isn't lean: `accepted_height` has answered a lean one before.
+// Of a record that isn't lean: `Accepted::super_height` has answered a lean one before.
 fn super_plane_height(base_w: u32, base_h: u32, pel: u32, levels: u32, full: bool) -> u32
     requires { (base_w ≤ most_side) × (base_h ≤ most_side) × (pel ≤ 4) × (levels ≤ most_levels) }
     ensures { (result ≡ cond full (full_height base_h pel levels) (packed_height base_w base_h)) × (result < 2 ^ 31) }
