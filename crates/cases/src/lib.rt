@@ -74,7 +74,7 @@ pub fn long(high: u32, low: u32) -> usize
     high as usize * 0x1_0000_0000 + low as usize
 }
 
-pub fn halves(n: u64) -> [u32; 2]
+pub fn halves(n: usize) -> [u32; 2]
     ensures { result ≡ n / 2 ^ 32 ∷ n % 2 ^ 32 ∷ [] }
 {
     [(n / 0x1_0000_0000) as u32, (n % 0x1_0000_0000) as u32]

@@ -6,6 +6,7 @@ ghost use Rattle.filters.specs.Refine.{upscale, lead_of, tail_of, half_pel, half
 ghost use Rattle.filters.specs.Inner.{Reach, natural_pel, next_means};
 
 use crate::rows::{copy_row, mean_row, rest};
+use crate::six::{Taps, six_row};
 
 // Document 01's bicubic and Wiener.
 #[derive(Clone, Copy)]
@@ -21,6 +22,7 @@ pub enum Upscale {
     Kernel(HalfPel),
 }
 
+// No trait over the two, as over the halving filters: each constant would have its match all the same, and they read 4 or 6 taps.
 // A kernel's constants: how many of the first places are means, from which place before the end on they are again (the copied place counted), and the rounding term.
 #[derive(Clone, Copy)]
 pub struct CatmullRom;
@@ -97,35 +99,6 @@ impl HalfPel {
         }
     }
 
-    fn apply(self, m2: u8, m1: u8, c0: u8, p1: u8, p2: u8, p3: u8) -> u8
-        ensures { result ≡ half_pel self m2 m1 c0 p1 p2 p3 }
-    {
-        match self {
-            HalfPel::CatmullRom => CatmullRom::apply(m1, c0, p1, p2),
-            HalfPel::Wiener => Wiener::apply(m2, m1, c0, p1, p2, p3),
-        }
-    }
-
-    // The kernel at each place of six rows.
-    #[tactic(auto, using(crate::proofs::Filling::filled_whole), unfolding(crate::specs::Row::sixes))]
-    fn apply_half_pel(
-        self,
-        out: &mut [u8],
-        m2: &[u8],
-        m1: &[u8],
-        c0: &[u8],
-        p1: &[u8],
-        p2: &[u8],
-        p3: &[u8],
-    )
-        requires { Reach (length out.old) m2.now m1.now c0.now p1.now p2.now p3.now }
-        ensures { out.new ≡ sixes (half_pel self) (length out.old) m2.now m1.now c0.now p1.now p2.now p3.now }
-    {
-        for (i, o) in out.iter_mut().enumerate() {
-            *o = self.apply(m2[i], m1[i], c0[i], p1[i], p2[i], p3[i]);
-        }
-    }
-
     // Row y of h, from the rows around it. A row that its place doesn't read may be any that is long enough.
     #[tactic(auto, using(crate::proofs::Places::vertical_copy, crate::proofs::Places::vertical_mean, crate::proofs::Places::vertical_kernel, crate::proofs::Tests::near_end))]
     pub fn vertical(
@@ -152,7 +125,7 @@ impl HalfPel {
             mean_row(out, c0, p1);
             return;
         }
-        self.apply_half_pel(out, m2, m1, c0, p1, p2, p3);
+        six_row(self, out, m2, m1, c0, p1, p2, p3);
     }
 
     // A row of half samples: means and the copied place first, then the kernel over the places between.
@@ -170,7 +143,8 @@ impl HalfPel {
         }
         let end = n - tail;
         // A kernel that reads m2 starts at place 2, so that its m2 starts with the row.
-        self.apply_half_pel(
+        six_row(
+            self,
             &mut out[lead..end],
             row,
             rest(row, lead - 1),
@@ -179,6 +153,17 @@ impl HalfPel {
             rest(row, lead + 2),
             rest(row, lead + 3),
         );
+    }
+}
+
+impl Taps for HalfPel {
+    ghost rule = { half_pel };
+
+    fn weighed(self, m2: u8, m1: u8, c0: u8, p1: u8, p2: u8, p3: u8) -> u8 {
+        match self {
+            HalfPel::CatmullRom => CatmullRom::apply(m1, c0, p1, p2),
+            HalfPel::Wiener => Wiener::apply(m2, m1, c0, p1, p2, p3),
+        }
     }
 }
 

@@ -6,6 +6,7 @@ ghost use Rattle.filters.specs.Halve.{chosen, first_row, last_row, last_is_mean,
 ghost use Rattle.filters.specs.Inner.{Low, Reach, Apart, weighed_apart, with_last, reduced_apart};
 
 use crate::rows::{mean, rest};
+use crate::six::{Taps, six_row};
 
 #[derive(Clone, Copy)]
 pub enum ReduceFilter {
@@ -15,6 +16,7 @@ pub enum ReduceFilter {
     Cubic,
 }
 
+// No trait over the four: which one it is shows only in a build, so each constant would have its match all the same, and their weights read 3, 4 or 6 taps.
 // A filter's constants: the first row that it reads, counted up from the source row, and the last, counted down; whether the last output is a mean; and the rounding term.
 // `weigh` shifts in two steps, which takes fewer instructions on vectors: what counts 2, 4 or 8 times is added once, after the rest is shifted by 1, 2 or 3. The bits that the rest loses can't reach the result.
 #[derive(Clone, Copy)]
@@ -171,17 +173,7 @@ impl ReduceFilter {
         }
     }
 
-    fn weigh_bytes(self, m2: u8, p3: u8, m1: u8, p2: u8, c0: u8, p1: u8) -> u8
-        ensures { result ≡ weigh self m2 m1 c0 p1 p2 p3 }
-    {
-        self.weigh(
-            m2 as u16, m1 as u16, c0 as u16, p1 as u16, p2 as u16, p3 as u16,
-        )
-    }
-
     // One target row that is no edge, from the rows around the source row. A row that the filter doesn't read may be any that is long enough.
-    // The bytes are read from the outer rows inward: of rows read in their own order, evenly apart, the compiler would make each address from the one before, at an instruction each.
-    #[tactic(auto, using(crate::proofs::Filling::filled_whole), unfolding(crate::specs::Row::sixes))]
     pub fn vertical_filter(
         self,
         out: &mut [u8],
@@ -195,9 +187,7 @@ impl ReduceFilter {
         requires { Reach (length out.old) m2.now m1.now c0.now p1.now p2.now p3.now }
         ensures { out.new ≡ sixes (weigh self) (length out.old) m2.now m1.now c0.now p1.now p2.now p3.now }
     {
-        for (i, o) in out.iter_mut().enumerate() {
-            *o = self.weigh_bytes(m2[i], p3[i], m1[i], p2[i], c0[i], p1[i]);
-        }
+        six_row(self, out, m2, m1, c0, p1, p2, p3);
     }
 
     // The weights at every place of a row taken apart. Past either end of the row they see whatever stands there.
@@ -237,6 +227,16 @@ impl ReduceFilter {
         self.weigh_apart(out, split);
         self.put_last(out, split);
         out[0] = split[1];
+    }
+}
+
+impl Taps for ReduceFilter {
+    ghost rule = { weigh };
+
+    fn weighed(self, m2: u8, m1: u8, c0: u8, p1: u8, p2: u8, p3: u8) -> u8 {
+        self.weigh(
+            m2 as u16, m1 as u16, c0 as u16, p1 as u16, p2 as u16, p3 as u16,
+        )
     }
 }
 

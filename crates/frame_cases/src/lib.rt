@@ -122,7 +122,7 @@ pub fn put_number<R: Print>(rt: &R, n: u32) -> io::Result<()> {
 
 // A number of two words, the high one first.
 pub fn put_long<R: Print>(rt: &R, n: usize) -> io::Result<()> {
-    let [high, low] = halves(n as u64);
+    let [high, low] = halves(n);
     put_number(rt, high)?;
     put_number(rt, low)
 }

@@ -2,16 +2,16 @@
 // First the two programs, each by the line that it prints for a line; then a text put into a lent slice, all lines, and the whole output; last `answer_input`, which reads, and writes that. Input and output lie in arrays of fixed size: nothing here is on a heap.
 #![tactic(auto)]
 
-ghost use Rattle.std.specs.Prelude.{◌≡◌, ℕ, List, ◌++◌, ◌+◌, ◌≤◌, length, take, drop};
+ghost use Rattle.std.specs.Prelude.{◌≡◌, ℕ, suc, List, ◌++◌, ◌+◌, ◌≤◌, length, take, drop};
 ghost use Rattle.lines.specs.Limits.{most_printed};
 ghost use Rattle.lines.specs.Text.{line_out, Printed};
-ghost use Rattle.lines.specs.Parting.{lines_of};
+ghost use Rattle.lines.specs.Parting.{before, lines_of};
 ghost use Rattle.longhand_lines.specs.Longhand.{longhand_line};
 ghost use Rattle.line_answers.specs.Output.{lines_for, output_of, Front};
 
 use input::read_full;
 use lines::limits::{MOST_INPUT, MOST_OUTPUT};
-use lines::parting::parted;
+use lines::parting::bytes_before;
 use lines::text::{Line, line_out};
 use longhand_lines::longhand::longhand_line;
 use std::io;
@@ -57,6 +57,15 @@ fn put(out: &mut [u8], at: usize, text: &[u8]) -> usize
     end
 }
 
+// The first line, and what comes after its newline.
+fn parted(input: &[u8]) -> (&[u8], &[u8])
+    ensures line { result.0.now ≡ take (before 10 input.now) input.now }
+    ensures others { result.1.now ≡ drop (suc (before 10 input.now)) input.now }
+{
+    let end = bytes_before(input, b'\n');
+    (&input[..end], input.get(end + 1..).unwrap_or(&[]))
+}
+
 fn put_lines<P: Program>(input: &[u8], out: &mut [u8]) -> usize
     requires { most_printed (length input.now + 1) ≤ length out.old }
     ensures { Front (lines_for P.line_for (lines_of input.now)) out.old result out.new }
@@ -64,7 +73,7 @@ fn put_lines<P: Program>(input: &[u8], out: &mut [u8]) -> usize
     let mut rest = input;
     let mut n = 0;
     while !rest.is_empty() {
-        let (line, others) = parted(rest, b'\n');
+        let (line, others) = parted(rest);
         n = put(out, n, P::line_for(line).as_bytes());
         rest = others;
     }

@@ -1,7 +1,5 @@
 -- One outcome: no second answer meets the contract of a public call (`OneOutcome`). None of these calls is lent anything to write. Assumes nothing.
 use mathlib.Core.Path.{sym, ◌∙◌}
-use mathlib.Core.List.{List}
-use Prim.Native.Nat.{ℕ}
 use contract.Lifetimes.{Lfts}
 use Rattle.settings.proofs.Outcome.{OneOutcome, determined, itself}
 use Rattle.lines.proofs.text.all_digits.Reads as all_digits_reads
@@ -12,7 +10,6 @@ use Rattle.lines.proofs.text.Line.new.Reads as new_reads
 use Rattle.lines.proofs.text.Line.as_bytes.Reads as as_bytes_reads
 use Rattle.lines.proofs.text.line_out.Reads as line_out_reads
 use Rattle.lines.proofs.parting.bytes_before.Reads as bytes_before_reads
-use Rattle.lines.proofs.parting.parted.Reads as parted_reads
 
 pub all_digits_unique : (κs : Lfts 1) → OneOutcome (all_digits_reads.Post κs) (λ r e. r)
 all_digits_unique κs x r s e f p q = determined itself p q
@@ -37,6 +34,3 @@ line_out_unique κs x r s e f p q = determined itself p.text q.text
 
 pub bytes_before_unique : (κs : Lfts 1) → OneOutcome (bytes_before_reads.Post κs) (λ r e. r)
 bytes_before_unique κs x r s e f p q = determined itself p.0 q.0
-
-pub parted_unique : (κs : Lfts 1) → OneOutcome {O = List ℕ × List ℕ} (parted_reads.Post κs) (λ r e. (r.0.now, r.1.now))
-parted_unique κs x r s e f p q = rw (determined itself p.0 q.0, determined itself p.1 q.1)

@@ -1,23 +1,16 @@
 -- A line into fields, "parted by single spaces", and the settings that fields are: an integer, a flag, or a lone `-`.
-use Rattle.std.specs.Prelude.{ℕ, zero, suc, ◌-◌, ◌^◌, Bool, cond, ◌&&◌, ◌||◌, List, [], ◌∷◌, leb, eqb, ◌==◌, count_by, ℤ, pos, neg_ℤ, length, get_or, take, drop, Option, Some, None, is_some}
+use Rattle.std.specs.Prelude.{ℕ, ◌-◌, ◌^◌, Bool, cond, ◌&&◌, ◌||◌, List, [], ◌∷◌, leb, eqb, ◌==◌, count_by, ℤ, pos, neg_ℤ, length, get_or, Option, Some, None, is_some}
+use Rattle.std.specs.List.{slice_split}
 use Rattle.lines.specs.Text.{all_digits, number_of}
-use Rattle.lines.specs.Parting.{before}
 
 -- ---- fields
 -- how often b stands there
 abbrev pub times : ℕ → List ℕ → ℕ
 times b l = count_by (λ a. a == b) l
 
--- what stands before the first space, and what after it
-abbrev pub first_field : List ℕ → List ℕ
-first_field l = take (before 32 l) l
-
-abbrev pub other_fields : List ℕ → List ℕ
-other_fields l = drop (suc (before 32 l)) l
-
-unfoldable pub field_at : List ℕ → ℕ → List ℕ
-field_at l zero = first_field l
-field_at l (suc k) = field_at (other_fields l) k
+-- "parted by single spaces"; past the last, nothing
+abbrev pub field_at : List ℕ → ℕ → List ℕ
+field_at l k = get_or (slice_split (λ b. b == 32) l) k []
 
 -- ---- an integer is an optional minus sign and 1 to 10 digits, and fits i32
 -- digits whose number is at most m

@@ -3,7 +3,6 @@
 ghost use Rattle.std.specs.Prelude.{◌≡◌, true, ◌≤◌, ◌^◌, pos, neg_ℤ};
 ghost use Rattle.longhand_lines.specs.Fields.{times, field_at, is_decimal, plain_of, minus_of, int_of, is_byte, is_setting, is_flag, flag_of};
 
-use lines::parting::parted;
 use lines::text::{all_digits, number_of};
 
 // How often b stands there.
@@ -13,16 +12,11 @@ pub(crate) fn times(line: &[u8], b: u8) -> usize
     line.iter().filter(|&&a| a == b).count()
 }
 
-// The field of that number, from 0 on; past the last, nothing. Of the library's `split` no contract says which bytes a part has.
-#[tactic(auto, unfolding(crate::specs::Fields::field_at))]
+// The field of that number, from 0 on; past the last, nothing.
 pub(crate) fn field_at(line: &[u8], k: usize) -> &[u8]
     ensures { result.now ≡ field_at line.now k }
 {
-    let (first, others) = parted(line, b' ');
-    if k == 0 {
-        return first;
-    }
-    field_at(others, k - 1)
+    line.split(|&b| b == b' ').nth(k).unwrap_or(&[])
 }
 
 // 1 to 10 digits whose number is at most `most`.

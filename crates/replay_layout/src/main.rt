@@ -26,7 +26,7 @@ fn words_of(laid: Result<[usize; LAYOUT], Refusal>, opts: SuperOpts) -> [u32; 57
     let mut words = [0; 57];
     match laid {
         Ok(layout) => {
-            words[1] = low(layout[COUNT]);
+            words[1] = halves(layout[COUNT])[1];
             put_regions(&mut words, &layout);
             put_end(&mut words, written_end(opts, &layout));
         }
@@ -47,21 +47,17 @@ fn put_regions(words: &mut [u32; 57], layout: &[usize; LAYOUT]) {
 }
 
 fn region_words(r: Region) -> [u32; 4] {
-    let [high, low_half] = halves(r.offset as u64);
-    [high, low_half, low(r.width), low(r.height)]
+    let [high, low] = halves(r.offset);
+    [high, low, halves(r.width)[1], halves(r.height)[1]]
 }
 
 fn put_end(words: &mut [u32; 57], end: Result<usize, Refusal>) {
     match end {
         Ok(n) => {
-            let [high, low] = halves(n as u64);
+            let [high, low] = halves(n);
             words[55] = high;
             words[56] = low;
         }
         Err(f) => words[54] = f.number(),
     }
-}
-
-fn low(n: usize) -> u32 {
-    (n % 0x1_0000_0000) as u32
 }

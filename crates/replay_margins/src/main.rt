@@ -61,7 +61,7 @@ fn found_row<'a>(words: &[u32; 20], frame: &'a [u8]) -> Result<&'a [u8], Refusal
 }
 
 fn put_row<R: Print>(rt: &R, row: &[u8]) -> io::Result<()> {
-    let [_, low] = halves(row.len() as u64);
-    put_number(rt, low)?;
+    let [_, len] = halves(row.len());
+    put_number(rt, len)?;
     rt.write_all(row)
 }

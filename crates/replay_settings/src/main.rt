@@ -40,14 +40,15 @@ fn tested(r: SuperOpts) -> Result<SuperOpts, Refusal> {
 }
 
 fn settings_of(given: u32, r: SuperOpts) -> Settings {
+    let has = |bit: u32| given >> bit & 1 == 1;
     Settings {
-        pel: (given % 2 == 1).then_some(r.pel),
-        gpu: (given / 2 % 2 == 1).then_some(r.gpu),
-        down: (given / 4 % 2 == 1).then_some(r.scale_down),
-        up: (given / 8 % 2 == 1).then_some(r.scale_up),
-        full: (given / 16 % 2 == 1).then_some(r.full),
-        rc: (given / 32 % 2 == 1).then_some(r.rc),
-        lean: (given / 64 % 2 == 1).then_some(r.lean),
+        pel: has(0).then_some(r.pel),
+        gpu: has(1).then_some(r.gpu),
+        down: has(2).then_some(r.scale_down),
+        up: has(3).then_some(r.scale_up),
+        full: has(4).then_some(r.full),
+        rc: has(5).then_some(r.rc),
+        lean: has(6).then_some(r.lean),
     }
 }
 
@@ -80,7 +81,7 @@ fn words_of(number: u32, r: SuperOpts) -> [u32; 18] {
 fn packed(p: Result<u64, Refusal>) -> [u32; 3] {
     match p {
         Ok(w) => {
-            let [high, low] = halves(w);
+            let [high, low] = halves(w as usize);
             [0, high, low]
         }
         Err(f) => [f.number(), 0, 0],

@@ -4,5 +4,5 @@ use lib.ListN.{length}
 use Rattle.filters.proofs.Filling.{Filled}
 use Rattle.filters.proofs.rows.zero_row.Given as goal
 
-abbrev pub invariant-loop-o : goal.invariant-loop-o
-invariant-loop-o l = Filled (λ (k : ℕ). 0) l.out (length l.out) l.o-index
+abbrev pub invariant-loop-i : goal.invariant-loop-i
+invariant-loop-i l = Filled (λ (k : ℕ). 0) l.out (length l.out) l.i
