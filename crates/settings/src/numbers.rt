@@ -6,16 +6,13 @@ ghost use Rattle.settings.specs.Numbers.{bit, bits_of, of_bits, to_nat};
 pub fn natural(z: i32) -> u32
     ensures { result ≡ to_nat z }
 {
-    if z < 0 {
-        return 0;
-    }
-    z as u32
+    u32::try_from(z).unwrap_or(0)
 }
 
 pub fn bit(b: bool) -> u64
     ensures { (result ≡ bit b) × (result < 2) }
 {
-    b as u64
+    u64::from(b)
 }
 
 // Two's complement: the bits of an integer, and the integer of bits.

@@ -290,6 +290,7 @@ pub fn reduce_dim(dim: u32, n: u32) -> u32
     d
 }
 
+// The count is the answer, and both sides are carried from turn to turn: no range and no iterator says it more plainly.
 fn auto_levels(width: u32, height: u32) -> u32
     ensures { result ≡ auto_levels width height }
 {
