@@ -2,12 +2,11 @@
 // First the numbers of a test and of a refusal, and whether two slices are too short; last what is told put, and a layout.
 ghost use Rattle.std.specs.Prelude.{◌≡◌, ltb};
 ghost use Rattle.settings.specs.Answers.{answer, number, tested};
-ghost use Rattle.layouts.specs.Refusals.{layout_no};
 ghost use Rattle.stored.specs.Layout.{stored_of};
 ghost use Rattle.answers.specs.Lent.{lowest, no_room, tells};
 
 use crate::record::FIELDS;
-use layouts::layout::Layout;
+use layouts::fitting::Fitting;
 use settings::refusal::Refusal;
 use stored::layout::{LAYOUT, fill};
 
@@ -53,14 +52,13 @@ pub fn put<T: Copy>(out: &mut [T], values: &[T]) -> u32
     0
 }
 
-// A layout, made where it is told: for calls that have tested what it is made from.
-pub fn put_layout(out: &mut [usize], layout: Layout) -> u32
-    requires { layout_no layout ≡ 0 }
-    ensures { answer result out.new ≡ tells 0 (stored_of layout) out.old }
+// A layout, made where it is told.
+pub fn put_layout(out: &mut [usize], fitting: Fitting) -> u32
+    ensures { answer result out.new ≡ tells 0 (stored_of fitting.layout) out.old }
 {
     if out.len() < LAYOUT {
         return TOO_SHORT;
     }
-    fill(&mut out[..LAYOUT], layout);
+    fill(&mut out[..LAYOUT], fitting);
     0
 }

@@ -9,8 +9,8 @@ ghost use Rattle.exports.specs.Calls.{layout_of, layout_tells, change_tells, end
 use answers::record::record_of;
 use answers::room::{lowest, number, put, put_layout};
 use answers::sizes::{NEEDS, PLANE, need_numbers, plane_numbers};
+use layouts::fitting::Fitting;
 use layouts::layout::Layout;
-use layouts::levels;
 use lookups::ends;
 use lookups::margins::clear_margins;
 use lookups::rows::{level_plane, row_place};
@@ -40,8 +40,8 @@ pub extern "C" fn sill_layout(
     ensures { answer result layout.new ≡ layout_tells (layout_of fields.now x_shift y_shift pitch) layout.old }
 {
     let q = layout_of(fields, x_shift, y_shift, pitch);
-    match levels::tested(q) {
-        Ok(()) => put_layout(layout, q),
+    match Fitting::of(q) {
+        Ok(fitting) => put_layout(layout, fitting),
         Err(f) => lowest(f, layout.len(), LAYOUT),
     }
 }

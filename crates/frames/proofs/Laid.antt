@@ -21,7 +21,10 @@ use Rattle.layouts.specs.Refusals.{least_pitch, layout_no}
 use Rattle.layouts.specs.Room.{most_offset}
 use Rattle.layouts.proofs.Choices.{cond_yes}
 use Rattle.layouts.proofs.Layouts.{pitch_fine, allowed, levels_le, offset_le}
-use Rattle.frames.specs.Parts.{plane_of, length_of, start_of, planes_no}
+use Rattle.frames.specs.declared.parts.Part.{Part}
+use Rattle.frames.specs.declared.parts.Parts.{Parts}
+use Rattle.frames.specs.Parts.{plane_of, length_of, start_of, planes_no, part_of, parts_of}
+use Rattle.frames.specs.Build.{three}
 
 -- what 6, 23 and 24 leave
 pub record Taken (r : SuperOpts) : Type 0 where
@@ -115,3 +118,13 @@ part_ends r k le = omega (arith, start_next r k, start_mono r (k + 1) (omega (ar
 
 pub start_le : (r : SuperOpts) → planes_no r ≡ 0 → (k : ℕ) → start_of r k ≤ k * most_offset
 start_le r e k = total_le (length_of r) most_offset k (length_le r e)
+
+-- a part by its number
+pub part_by : (r : SuperOpts) (k : ℕ) {p : Parts} {t : Part} → p ≡ parts_of r → t ≡ three p.y p.u p.v k → k ≤ 2 → t ≡ part_of r k
+part_by r k is e le = e ∙ ap (λ (p : Parts). three p.y p.u p.v k) is ∙ go k le
+  where
+    go : (j : ℕ) → j ≤ 2 → three (part_of r 0) (part_of r 1) (part_of r 2) j ≡ part_of r j
+    go zero le = refl
+    go (suc zero) le = refl
+    go (suc (suc zero)) le = refl
+    go (suc (suc (suc j))) le = absurd (omega (arith, le))

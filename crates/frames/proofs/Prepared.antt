@@ -72,5 +72,5 @@ pub part_ready : {q q' : Layout} {n sp len len' spill scratch : ℕ} → Ready q
 part_ready r e l = rw (e, l) r
 
 -- what a part's build asks, in slices of as many bytes
-pub part_asks : {r : SuperOpts} {n sp : ℕ → ℕ} {len spill scratch len' spill' scratch' : ℕ} → Granted r n sp len spill scratch → len' ≡ len → spill' ≡ spill → scratch' ≡ scratch → (k : ℕ) → k ≤ 2 → (planes_no r ≡ 0) × (k ≤ 2) × (joined_end r ≤ len') × Ready (plane_of r k) (n k) (sp k) (length_of r k) spill' scratch'
-part_asks g l s x k le = rw (l, s, x) (g.planes, le, g.end, g.parts k le)
+pub part_asks : {r : SuperOpts} {n sp : ℕ → ℕ} {len spill scratch len' spill' scratch' : ℕ} → Granted r n sp len spill scratch → len' ≡ len → spill' ≡ spill → scratch' ≡ scratch → (k : ℕ) → k ≤ 2 → (k ≤ 2) × (joined_end r ≤ len') × Ready (plane_of r k) (n k) (sp k) (length_of r k) spill' scratch'
+part_asks g l s x k le = rw (l, s, x) (le, g.end, g.parts k le)

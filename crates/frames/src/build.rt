@@ -6,12 +6,12 @@ ghost use Rattle.settings.specs.Answers.{tested};
 ghost use Rattle.layouts.specs.Layout.{width_at};
 ghost use Rattle.layouts.specs.Refusals.{bad_pitch, source_need};
 ghost use Rattle.layouts.specs.Room.{Ready};
-ghost use Rattle.frames.specs.Parts.{plane_of, length_of, joined_end, planes_no};
+ghost use Rattle.frames.specs.Parts.{plane_of, length_of, joined_end};
 ghost use Rattle.frames.specs.Build.{three, lent_frame_no, build_frame_no, part_built, frame_left, FrameLeaves};
 
-use crate::parts::{part_of, parts_of, plane_of, planes_tested};
+use crate::framed::Framed;
+use crate::parts::plane_of;
 use filters::rows::zero_row;
-use layouts::lent::source_need;
 use layouts::levels::{bad_pitch, width};
 use planes::build::build_spilled;
 use settings::refusal::{BadLent, Refusal, refuse_if};
@@ -23,17 +23,17 @@ fn bad_source_pitch(opts: SuperOpts, part: u32, pitch: usize) -> bool
     bad_pitch(pitch, width(plane_of(opts, part), 0))
 }
 
-fn short_source(opts: SuperOpts, part: u32, len: usize, pitch: usize) -> bool
-    requires { (planes_no opts ≡ 0) × (pitch ≤ most_pitch) }
-    ensures { result ≡ ltb len (source_need (plane_of opts part) pitch) }
+fn short_source(framed: Framed, part: u32, len: usize, pitch: usize) -> bool
+    requires { pitch ≤ most_pitch }
+    ensures { result ≡ ltb len (source_need (plane_of framed.opts part) pitch) }
 {
-    len < source_need(plane_of(opts, part), pitch)
+    len < framed.plane(part).source_need(pitch)
 }
 
 // Refusals 10 to 13. Only accepted pitches have needs that fit.
 #[tactic(auto, unfolding(crate::specs::Build::lent_frame_no))]
 fn lent_tested(
-    opts: SuperOpts,
+    framed: Framed,
     y: usize,
     y_pitch: usize,
     u: usize,
@@ -44,13 +44,13 @@ fn lent_tested(
     spill: usize,
     scratch: usize,
 ) -> Result<(), Refusal>
-    requires { (planes_no opts ≡ 0) × (y_pitch ≤ most_pitch) × (u_pitch ≤ most_pitch) × (v_pitch ≤ most_pitch) }
-    ensures { tested result ≡ lent_frame_no opts (three y u v) (three y_pitch u_pitch v_pitch) frame spill scratch }
+    requires { (y_pitch ≤ most_pitch) × (u_pitch ≤ most_pitch) × (v_pitch ≤ most_pitch) }
+    ensures { tested result ≡ lent_frame_no framed.opts (three y u v) (three y_pitch u_pitch v_pitch) frame spill scratch }
 {
-    let source = short_source(opts, 0, y, y_pitch)
-        | short_source(opts, 1, u, u_pitch)
-        | short_source(opts, 2, v, v_pitch);
-    let parts = parts_of(opts);
+    let source = short_source(framed, 0, y, y_pitch)
+        | short_source(framed, 1, u, u_pitch)
+        | short_source(framed, 2, v, v_pitch);
+    let parts = framed.parts();
     let needs = parts.needs;
     refuse_if(source, BadLent::Source)?;
     refuse_if(frame < parts.length, BadLent::Frame)?;
@@ -59,8 +59,9 @@ fn lent_tested(
     Ok(())
 }
 
+// Refusals 9 to 13.
 fn build_tested(
-    opts: SuperOpts,
+    framed: Framed,
     y: usize,
     y_pitch: usize,
     u: usize,
@@ -71,9 +72,9 @@ fn build_tested(
     spill: usize,
     scratch: usize,
 ) -> Result<(), Refusal>
-    ensures { tested result ≡ build_frame_no opts (three y u v) (three y_pitch u_pitch v_pitch) frame spill scratch }
+    ensures { tested result ≡ build_frame_no framed.opts (three y u v) (three y_pitch u_pitch v_pitch) frame spill scratch }
 {
-    planes_tested(opts)?;
+    let opts = framed.opts;
     let bad = bad_source_pitch(opts, 0, y_pitch)
         | bad_source_pitch(opts, 1, u_pitch)
         | bad_source_pitch(opts, 2, v_pitch);
@@ -81,7 +82,7 @@ fn build_tested(
         return Err(Refusal::Lent(BadLent::SourcePitch));
     }
     lent_tested(
-        opts, y, y_pitch, u, u_pitch, v, v_pitch, frame, spill, scratch,
+        framed, y, y_pitch, u, u_pitch, v, v_pitch, frame, spill, scratch,
     )
 }
 
@@ -90,15 +91,15 @@ fn build_part(
     frame: &mut [u8],
     spill: &mut [u8],
     scratch: &mut [u8],
-    opts: SuperOpts,
+    framed: Framed,
     part: u32,
     src: &[u8],
     src_pitch: usize,
 )
-    requires { (planes_no opts ≡ 0) × (part ≤ 2) × (joined_end opts ≤ length frame.old) × Ready (plane_of opts part) (length src.now) src_pitch (length_of opts part) (length spill.old) (length scratch.old) }
-    ensures { frame.new ≡ part_built opts part src.now src_pitch frame.old }
+    requires { (part ≤ 2) × (joined_end framed.opts ≤ length frame.old) × Ready (plane_of framed.opts part) (length src.now) src_pitch (length_of framed.opts part) (length spill.old) (length scratch.old) }
+    ensures { frame.new ≡ part_built framed.opts part src.now src_pitch frame.old }
 {
-    let own = part_of(opts, parts_of(opts), part);
+    let own = framed.parts().part(part);
     let start = own.start;
     let end = start + own.length;
     let bytes = &mut frame[start..end];
@@ -107,7 +108,7 @@ fn build_part(
         bytes,
         spill,
         scratch,
-        plane_of(opts, part),
+        framed.plane(part),
         src,
         src_pitch,
     );
@@ -117,7 +118,7 @@ fn build_parts(
     frame: &mut [u8],
     spill: &mut [u8],
     scratch: &mut [u8],
-    opts: SuperOpts,
+    framed: Framed,
     y: &[u8],
     y_pitch: usize,
     u: &[u8],
@@ -125,12 +126,12 @@ fn build_parts(
     v: &[u8],
     v_pitch: usize,
 )
-    requires { build_frame_no opts (three (length y.now) (length u.now) (length v.now)) (three y_pitch u_pitch v_pitch) (length frame.old) (length spill.old) (length scratch.old) ≡ 0 }
-    ensures { frame.new ≡ frame_left opts (three y.now u.now v.now) (three y_pitch u_pitch v_pitch) frame.old }
+    requires { build_frame_no framed.opts (three (length y.now) (length u.now) (length v.now)) (three y_pitch u_pitch v_pitch) (length frame.old) (length spill.old) (length scratch.old) ≡ 0 }
+    ensures { frame.new ≡ frame_left framed.opts (three y.now u.now v.now) (three y_pitch u_pitch v_pitch) frame.old }
 {
-    build_part(frame, spill, scratch, opts, 0, y, y_pitch);
-    build_part(frame, spill, scratch, opts, 1, u, u_pitch);
-    build_part(frame, spill, scratch, opts, 2, v, v_pitch);
+    build_part(frame, spill, scratch, framed, 0, y, y_pitch);
+    build_part(frame, spill, scratch, framed, 1, u, u_pitch);
+    build_part(frame, spill, scratch, framed, 2, v, v_pitch);
 }
 
 // Builds Y, U and V, each from a source whose rows are its pitch apart, one after the other in the frame; what was lent for it holds zeros after. Refusals 6, 23, 24, 9 to 13; all are looked for before a byte is stored.
@@ -148,8 +149,9 @@ pub fn build_frame(
 ) -> Result<(), Refusal>
     ensures { FrameLeaves opts (three y.now u.now v.now) (three y_pitch u_pitch v_pitch) frame.old spill.old scratch.old (tested result) frame.new spill.new scratch.new }
 {
+    let framed = Framed::of(opts)?;
     build_tested(
-        opts,
+        framed,
         y.len(),
         y_pitch,
         u.len(),
@@ -161,7 +163,7 @@ pub fn build_frame(
         scratch.len(),
     )?;
     build_parts(
-        frame, spill, scratch, opts, y, y_pitch, u, u_pitch, v, v_pitch,
+        frame, spill, scratch, framed, y, y_pitch, u, u_pitch, v, v_pitch,
     );
     zero_row(spill);
     zero_row(scratch);

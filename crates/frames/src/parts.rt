@@ -1,15 +1,15 @@
 // The planes of a frame, Y, U and V, by the numbers 0, 1 and 2: where the part of each lies.
 // First a plane's layout, and the length of its part; then the refusals; then where the parts lie; last a row of one.
-ghost use Rattle.std.specs.Prelude.{◌≡◌, ◌≤◌, length};
+ghost use Rattle.std.specs.Prelude.{◌≡◌, length};
 ghost use Rattle.settings.specs.Answers.{tested};
 ghost use Rattle.layouts.specs.Storing.{part_at};
 ghost use Rattle.layouts.specs.Answers.{placed};
-ghost use Rattle.frames.specs.Parts.{plane_of, length_of, planes_no, part_of, parts_of, parted, parts_answer, place_in_answer, row_in_part, row_in_from};
+ghost use Rattle.frames.specs.Parts.{plane_of, length_of, planes_no, parts_of, parted, parts_answer, place_in_answer, row_in_part, row_in_from};
 
+use crate::framed::Framed;
+use layouts::fitting::Fitting;
 use layouts::layout::{Layout, Needs};
-use layouts::lent::{scratch_need, spill_need};
-use layouts::levels::offset;
-use layouts::rows::{Run, hand_out, row_in};
+use layouts::rows::{Run, hand_out};
 use settings::refusal::{BadLent, BadPlanes, Refusal, refuse_if};
 use settings::super_opts::SuperOpts;
 
@@ -52,13 +52,6 @@ pub(crate) fn plane_of(opts: SuperOpts, part: u32) -> Layout
     }
 }
 
-fn part_length(opts: SuperOpts, part: u32) -> usize
-    requires { planes_no opts ≡ 0 }
-    ensures { result ≡ length_of opts part }
-{
-    offset(plane_of(opts, part), opts.naturals().levels)
-}
-
 // Refusals 6, 23 and 24.
 #[tactic(auto, unfolding(crate::specs::Parts::planes_no))]
 pub(crate) fn planes_tested(opts: SuperOpts) -> Result<(), Refusal>
@@ -71,86 +64,104 @@ pub(crate) fn planes_tested(opts: SuperOpts) -> Result<(), Refusal>
     Ok(())
 }
 
-// Two walks down the levels tell it all: V is as long as U.
-pub(crate) fn parts_of(opts: SuperOpts) -> Parts
-    requires { planes_no opts ≡ 0 }
-    ensures { result ≡ parts_of opts }
-{
-    let luma = plane_of(opts, 0);
-    let chroma = plane_of(opts, 1);
-    let long = part_length(opts, 0);
-    let short = part_length(opts, 1);
-    Parts {
-        y: Part {
-            start: 0,
-            pitch: luma.pitch,
-            length: long,
-        },
-        u: Part {
-            start: long,
-            pitch: chroma.pitch,
-            length: short,
-        },
-        v: Part {
-            start: long + short,
-            pitch: chroma.pitch,
-            length: short,
-        },
-        length: long + short + short,
-        needs: Needs {
-            spill: spill_need(luma),
-            scratch: scratch_need(luma),
-        },
+impl Framed {
+    pub(crate) fn plane(self, part: u32) -> Fitting
+        ensures { result.layout ≡ plane_of self.opts part }
+    {
+        let layout = plane_of(self.opts, part);
+        Fitting { layout }
+    }
+
+    fn part_length(self, part: u32) -> usize
+        ensures { result ≡ length_of self.opts part }
+    {
+        self.plane(part).offset(self.opts.naturals().levels)
+    }
+
+    // Two walks down the levels tell it all: V is as long as U.
+    pub(crate) fn parts(self) -> Parts
+        ensures { result ≡ parts_of self.opts }
+    {
+        let luma = self.plane(0);
+        let pitch = self.plane(1).layout.pitch;
+        let long = self.part_length(0);
+        let short = self.part_length(1);
+        Parts {
+            y: Part {
+                start: 0,
+                pitch: luma.layout.pitch,
+                length: long,
+            },
+            u: Part {
+                start: long,
+                pitch,
+                length: short,
+            },
+            v: Part {
+                start: long + short,
+                pitch,
+                length: short,
+            },
+            length: long + short + short,
+            needs: Needs {
+                spill: luma.spill_need(),
+                scratch: luma.scratch_need(),
+            },
+        }
     }
 }
 
-// By its number. The record is there for the contract alone.
-pub(crate) fn part_of(opts: SuperOpts, parts: Parts, part: u32) -> Part
-    requires { (parts ≡ parts_of opts) × (part ≤ 2) }
-    ensures { result ≡ part_of opts part }
-{
-    if part == 0 {
-        return parts.y;
+impl Parts {
+    ghost use Rattle.frames.specs.Build.{three};
+
+    // By its number.
+    pub(crate) fn part(self, part: u32) -> Part
+        ensures { result ≡ three self.y self.u self.v part }
+    {
+        if part == 0 {
+            return self.y;
+        }
+        if part == 1 {
+            return self.u;
+        }
+        self.v
     }
-    if part == 1 {
-        return parts.u;
-    }
-    parts.v
 }
 
 // Where the planes lie, and what a build of all three needs. Refusals 6, 23, 24.
 pub fn frame_parts(opts: SuperOpts) -> Result<Parts, Refusal>
     ensures { parted result ≡ parts_answer opts }
 {
-    planes_tested(opts)?;
-    Ok(parts_of(opts))
+    let framed = Framed::of(opts)?;
+    Ok(framed.parts())
 }
 
-// Of a record that has a frame: the row in its part, and the part in the frame. Refusals 11 and 19.
-fn place_in(
-    opts: SuperOpts,
-    len: usize,
-    part: u32,
-    level: u32,
-    plane: usize,
-    y: usize,
-) -> Result<Run, Refusal>
-    requires { planes_no opts ≡ 0 }
-    ensures { placed result ≡ place_in_answer opts len part level plane y }
-{
-    let parts = parts_of(opts);
-    if len < parts.length {
-        return Err(Refusal::Lent(BadLent::Frame));
+impl Framed {
+    // The row in its part, and the part in the frame. Refusals 11 and 19.
+    fn place_in(
+        self,
+        len: usize,
+        part: u32,
+        level: u32,
+        plane: usize,
+        y: usize,
+    ) -> Result<Run, Refusal>
+        ensures { placed result ≡ place_in_answer self.opts len part level plane y }
+    {
+        let parts = self.parts();
+        if len < parts.length {
+            return Err(Refusal::Lent(BadLent::Frame));
+        }
+        if part > 2 {
+            return Err(Refusal::NoRow);
+        }
+        let own = parts.part(part);
+        let run = self.plane(part).row_in(level, plane, y)?;
+        Ok(Run {
+            offset: own.start + run.offset,
+            length: run.length,
+        })
     }
-    if part > 2 {
-        return Err(Refusal::NoRow);
-    }
-    let own = part_of(opts, parts, part);
-    let run = row_in(plane_of(opts, part), level, plane, y)?;
-    Ok(Run {
-        offset: own.start + run.offset,
-        length: run.length,
-    })
 }
 
 // Where row y of a plane of a level of a part lies, in a frame of len bytes. Refusals 6, 23, 24, 11, 19.
@@ -164,8 +175,8 @@ pub fn frame_row_place(
 ) -> Result<Run, Refusal>
     ensures { placed result ≡ place_in_answer opts len part level plane y }
 {
-    planes_tested(opts)?;
-    place_in(opts, len, part, level, plane, y)
+    let framed = Framed::of(opts)?;
+    framed.place_in(len, part, level, plane, y)
 }
 
 // That row: a part of the frame, empty when refused.

@@ -1,8 +1,8 @@
 -- A layout that isn't refused: what the refusals leave; its numbers are small; its levels follow each other and fit the pitch; a row lies in its level. Assumes nothing.
-use mathlib.Core.Path.{◌≡◌, refl, sym, ap, subst, ◌∙◌}
+use mathlib.Core.Path.{◌≡◌, refl, sym, ap, ap₂, subst, ◌∙◌}
 use mathlib.Core.Logic.{⊎_elim}
 use mathlib.Core.Bool.{Bool, true, false, not, cond, ◌||◌}
-use Prim.Native.Nat.{ℕ, zero, suc, ◌+◌, ◌*◌, ◌/◌, ◌^◌, ◌≤◌, ◌<◌}
+use Prim.Native.Nat.{ℕ, zero, suc, ◌+◌, ◌*◌, ◌-◌, ◌/◌, ◌^◌, ◌≤◌, ◌<◌}
 use native.Mathlib.Nat.{le_trans, le_of_suc-le-suc, eq-or-lt_of_le, one-mul, div-le_self, div-eq_of_lt, pow-le-pow_right}
 use native.Mathlib.Numerals.{add-one}
 use native.Mathlib.Omega.{arith}
@@ -13,13 +13,17 @@ use Rattle.settings.specs.declared.refusal.Refusal.{Refusal}
 use Rattle.settings.specs.Answers.{if_done, number}
 use Rattle.settings.specs.Numbers.{refuse, ◌then◌, total}
 use Rattle.settings.specs.Sizes.{reduced}
-use Rattle.settings.specs.Check.{accepted, record_no, luma_w, luma_h, pel_of}
+use Rattle.settings.specs.declared.super_opts.Naturals.{Naturals}
+use Rattle.settings.specs.Check.{accepted, record_no, luma_w, luma_h, pel_of, naturals_of}
 use Rattle.settings.proofs.Tests.{or_false_left, or_false_right, cond_le}
 use Rattle.settings.proofs.Refusals.{then_first, then_rest, refuse_not}
 use Rattle.settings.proofs.Heights.{prod_le, reduced_le, total_le, total_suc}
 use Rattle.settings.proofs.Known.{number_then}
 use Rattle.settings.proofs.Accepted.{within}
 use Rattle.layouts.specs.declared.layout.Layout.{Layout}
+use Rattle.layouts.specs.declared.fitting.Fitting.{Fitting}
+use Rattle.layouts.specs.declared.level.Level.{Level}
+use Rattle.layouts.specs.declared.descent.Descent.{Descent}
 use Rattle.layouts.specs.declared.rows.Run.{Run}
 use Rattle.layouts.specs.Layout.{levels_of, written_end, row_start, region_at, region_or, no_region, width_at, height_at, stored_at, bytes_at, offset_at}
 use Rattle.layouts.specs.Refusals.{least_pitch, bad_pitch, layout_no, no_row}
@@ -232,3 +236,11 @@ region_none q l le = cond_no (ltb l (levels_of q)) (region_at q l) no_region (le
 
 pub levels_le : (q : Layout) → Allowed q → levels_of q ≤ most_levels
 levels_le q a = (within q.opts a.good).levels
+
+-- a turn of a loop over the levels is at one of them, by the count that the record gives
+pub turn : {n : Naturals} (q : Layout) (l : ℕ) → layout_no q ≡ 0 → n ≡ naturals_of q.opts → l < n.levels → (l < levels_of q) × (l < most_levels)
+turn q l fine e lt = let few = ap (λ (x : Naturals). x.levels) e in let most = levels_le q (allowed q fine) in (omega (arith, few, lt), omega (arith, few, most, lt))
+
+-- where the walk was before its last step, the level above the one that it has reached lies
+pub above_at : (d e : Descent) (t : Level) → e.layout ≡ d.layout → e.level ≡ d.level + 1 → t.layout ≡ e.layout → t.level ≡ e.level → d.offset ≡ offset_at t.layout.layout (t.level - 1)
+above_at d e t a b x y = d.place ∙ ap₂ (λ (q : Fitting) (l : ℕ). offset_at q.layout l) (sym a ∙ sym x) (omega (arith, b, y))

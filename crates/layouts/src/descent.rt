@@ -1,68 +1,90 @@
 // A walk down a plane's levels, which carries what it has reached: each level's size and place come from those of the level above, and none is reduced from the full size again.
-// First where it starts; then one level further, and down to a level; last the region of the level that it has reached.
+// First where it starts; then one level further, and down to a level; last the region of the level that it has reached, and that level where there is one.
 ghost use Rattle.std.specs.Prelude.{◌≡◌, ◌+◌, ◌≤◌, ◌<◌};
 ghost use Rattle.settings.specs.Limits.{most_levels};
-ghost use Rattle.layouts.specs.Layout.{region_at};
-ghost use Rattle.layouts.specs.Descent.{reached};
-ghost use Rattle.layouts.specs.Refusals.{layout_no};
+ghost use Rattle.settings.specs.Sizes.{reduced};
+ghost use Rattle.settings.specs.Check.{luma_w, luma_h};
+ghost use Rattle.layouts.specs.Layout.{levels_of, offset_at, region_at};
 
-use crate::layout::{Layout, Region};
+use crate::fitting::Fitting;
+use crate::layout::Region;
+use crate::level::Level;
 use crate::levels::stored;
 use settings::super_opts::reduce_once;
 
-// Where a level lies, and the picture's sides, reduced so often.
+// Where a level lies, and the picture's sides, reduced so often. At the count of levels it is where the last one ends.
 #[derive(Clone, Copy)]
 pub struct Descent {
+    pub layout: Fitting,
+    pub level: u32,
     pub offset: usize,
-    pub width: u32,
-    pub height: u32,
+    width: u32,
+    height: u32,
+    pub ghost place: { offset ≡ offset_at layout.layout level },
+    ghost sides: { (width ≡ reduced (luma_w layout.layout.opts) level) × (height ≡ reduced (luma_h layout.layout.opts) level) },
 }
 
 impl Descent {
-    pub fn top(layout: Layout) -> Descent
-        ensures { result ≡ reached layout 0 }
+    pub fn top(layout: Fitting) -> Descent
+        ensures { (result.layout ≡ layout) × (result.level ≡ 0) }
     {
-        let n = layout.opts.naturals();
+        let n = layout.layout.opts.naturals();
         Descent {
+            layout,
+            level: 0,
             offset: 0,
             width: n.width,
             height: n.height,
         }
     }
 
-    pub fn next(self, layout: Layout, level: u32) -> Descent
-        requires { (layout_no layout ≡ 0) × (level < most_levels) × (self ≡ reached layout level) }
-        ensures { result ≡ reached layout (level + 1) }
+    pub fn next(self) -> Descent
+        requires { self.level < most_levels }
+        ensures { (result.layout ≡ self.layout) × (result.level ≡ self.level + 1) }
     {
+        let layout = self.layout.layout;
         let above = self.height;
         let below = reduce_once(above);
-        let rows = stored(layout, level) * (above >> layout.y_shift) as usize;
+        let rows = stored(layout, self.level) * (above >> layout.y_shift) as usize;
         Descent {
+            layout: self.layout,
+            level: self.level + 1,
             offset: self.offset + rows * layout.pitch,
             width: reduce_once(self.width),
             height: below,
         }
     }
 
-    pub fn down(self, layout: Layout, from: u32, to: u32) -> Descent
-        requires { (layout_no layout ≡ 0) × (from ≤ to) × (to ≤ most_levels) × (self ≡ reached layout from) }
-        ensures { result ≡ reached layout to }
+    pub fn down(self, to: u32) -> Descent
+        requires { (self.level ≤ to) × (to ≤ most_levels) }
+        ensures { (result.layout ≡ self.layout) × (result.level ≡ to) }
     {
         let mut at = self;
-        for level in from..to {
-            at = at.next(layout, level);
+        while at.level < to {
+            at = at.next();
         }
         at
     }
 
-    pub fn region(self, layout: Layout, level: u32) -> Region
-        requires { (layout_no layout ≡ 0) × (self ≡ reached layout level) }
-        ensures { result ≡ region_at layout level }
+    pub fn region(self) -> Region
+        ensures { result ≡ region_at self.layout.layout self.level }
     {
+        let layout = self.layout.layout;
         Region {
             offset: self.offset,
             width: (self.width >> layout.x_shift) as usize,
             height: (self.height >> layout.y_shift) as usize,
+        }
+    }
+
+    pub fn here(self) -> Level
+        requires { self.level < levels_of self.layout.layout }
+        ensures { (result.layout ≡ self.layout) × (result.level ≡ self.level) }
+    {
+        Level {
+            layout: self.layout,
+            level: self.level,
+            region: self.region(),
         }
     }
 }

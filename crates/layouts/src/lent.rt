@@ -4,62 +4,63 @@ ghost use Rattle.std.specs.Prelude.{◌≡◌, ◌≤◌};
 ghost use Rattle.settings.specs.Limits.{most_pitch};
 ghost use Rattle.settings.specs.Answers.{tested};
 ghost use Rattle.layouts.specs.Layout.{written_end, spill_need, scratch_need};
-ghost use Rattle.layouts.specs.Refusals.{layout_no, source_need, lent_no};
+ghost use Rattle.layouts.specs.Refusals.{source_need, lent_no};
 
-use crate::layout::Layout;
+use crate::fitting::Fitting;
 use crate::levels::{height, width};
 use settings::refusal::{BadLent, Refusal, refuse_if};
 
-pub fn source_need(layout: Layout, src_pitch: usize) -> usize
-    requires { (layout_no layout ≡ 0) × (src_pitch ≤ most_pitch) }
-    ensures { result ≡ source_need layout src_pitch }
-{
-    let w = width(layout, 0);
-    let h = height(layout, 0);
-    if (w == 0) | (h == 0) {
-        return 0;
+impl Fitting {
+    pub fn source_need(self, src_pitch: usize) -> usize
+        requires { src_pitch ≤ most_pitch }
+        ensures { result ≡ source_need self.layout src_pitch }
+    {
+        let w = width(self.layout, 0);
+        let h = height(self.layout, 0);
+        if (w == 0) | (h == 0) {
+            return 0;
+        }
+        (h - 1) * src_pitch + w
     }
-    (h - 1) * src_pitch + w
-}
 
-// Level 1's rows, laid twice as far apart, where level 0 isn't stored; else what a pair's last row leaves past the frame.
-pub fn spill_need(layout: Layout) -> usize
-    requires { layout_no layout ≡ 0 }
-    ensures { result ≡ spill_need layout }
-{
-    if layout.opts.full {
-        return 16;
+    // Level 1's rows, laid twice as far apart, where level 0 isn't stored; else what a pair's last row leaves past the frame.
+    pub fn spill_need(self) -> usize
+        ensures { result ≡ spill_need self.layout }
+    {
+        let layout = self.layout;
+        if layout.opts.full {
+            return 16;
+        }
+        if layout.opts.naturals().levels < 2 {
+            return 16;
+        }
+        height(layout, 1) * layout.pitch
     }
-    if layout.opts.naturals().levels < 2 {
-        return 16;
+
+    pub fn scratch_need(self) -> usize
+        ensures { result ≡ scratch_need self.layout }
+    {
+        16 * (self.layout.pitch + 16)
     }
-    height(layout, 1) * layout.pitch
-}
 
-pub fn scratch_need(layout: Layout) -> usize
-    requires { layout_no layout ≡ 0 }
-    ensures { result ≡ scratch_need layout }
-{
-    16 * (layout.pitch + 16)
-}
-
-// Refusals 10 to 13, by the lengths, where the last level ends at end. Only an accepted layout and source pitch have needs that fit.
-#[tactic(auto, unfolding(crate::specs::Refusals::lent_no))]
-pub fn lent_tested(
-    layout: Layout,
-    end: usize,
-    src: usize,
-    src_pitch: usize,
-    frame: usize,
-    spill: usize,
-    scratch: usize,
-) -> Result<(), Refusal>
-    requires { (layout_no layout ≡ 0) × (src_pitch ≤ most_pitch) × (end ≡ written_end layout) }
-    ensures { tested result ≡ lent_no layout src src_pitch frame spill scratch }
-{
-    refuse_if(src < source_need(layout, src_pitch), BadLent::Source)?;
-    refuse_if(frame < end, BadLent::Frame)?;
-    refuse_if(spill < spill_need(layout), BadLent::Spill)?;
-    refuse_if(scratch < scratch_need(layout), BadLent::Scratch)?;
-    Ok(())
+    // Refusals 10 to 13, by the lengths, where the last level ends at end. Only an accepted source pitch has needs that fit.
+    #[tactic(auto, unfolding(crate::specs::Refusals::lent_no))]
+    pub fn lent_tested(
+        self,
+        end: usize,
+        src: usize,
+        src_pitch: usize,
+        frame: usize,
+        spill: usize,
+        scratch: usize,
+    ) -> Result<(), Refusal>
+        requires { (src_pitch ≤ most_pitch) × (end ≡ written_end self.layout) }
+        ensures { tested result ≡ lent_no self.layout src src_pitch frame spill scratch }
+    {
+        refuse_if(src < self.source_need(src_pitch), BadLent::Source)?;
+        refuse_if(frame < end, BadLent::Frame)?;
+        refuse_if(spill < self.spill_need(), BadLent::Spill)?;
+        refuse_if(scratch < self.scratch_need(), BadLent::Scratch)?;
+        Ok(())
+    }
 }

@@ -7,6 +7,7 @@ ghost use Rattle.layouts.specs.Layout.{width_at, height_at, stored_at, offset_at
 ghost use Rattle.layouts.specs.Refusals.{least_pitch, bad_pitch, layout_no};
 
 use crate::descent::Descent;
+use crate::fitting::Fitting;
 use crate::layout::Layout;
 use settings::limits::MOST_PITCH;
 use settings::refusal::{BadLayout, Refusal, refuse_if};
@@ -81,10 +82,12 @@ pub fn tested(layout: Layout) -> Result<(), Refusal>
     Ok(())
 }
 
-// Where a level lies; at the count of levels, where the last one ends.
-pub fn offset(layout: Layout, level: u32) -> usize
-    requires { (layout_no layout ≡ 0) × (level ≤ most_levels) }
-    ensures { result ≡ offset_at layout level }
-{
-    Descent::top(layout).down(layout, 0, level).offset
+impl Fitting {
+    // Where a level lies; at the count of levels, where the last one ends.
+    pub fn offset(self, level: u32) -> usize
+        requires { level ≤ most_levels }
+        ensures { result ≡ offset_at self.layout level }
+    {
+        Descent::top(self).down(level).offset
+    }
 }

@@ -1,14 +1,14 @@
 // A row of a frame: where it lies, or that there is none, and its bytes, which are the caller's own.
-ghost use Rattle.std.specs.Prelude.{◌≡◌, ◌+◌, ◌≤◌, ◌<◌, length, take, drop};
+ghost use Rattle.std.specs.Prelude.{◌≡◌, ◌+◌, ◌≤◌, length, take, drop};
 ghost use Rattle.settings.specs.Numbers.{refuse};
 ghost use Rattle.settings.specs.Answers.{if_done};
 ghost use Rattle.layouts.specs.Storing.{part_at};
-ghost use Rattle.layouts.specs.Layout.{levels_of, region_at};
-ghost use Rattle.layouts.specs.Refusals.{layout_no, no_row};
+ghost use Rattle.layouts.specs.Refusals.{no_row};
 ghost use Rattle.layouts.specs.Answers.{placed, run_of, no_run};
 
 use crate::descent::Descent;
-use crate::layout::{Layout, Region};
+use crate::fitting::Fitting;
+use crate::level::Level;
 use crate::levels::stored;
 use settings::refusal::Refusal;
 
@@ -19,37 +19,33 @@ pub struct Run {
     pub length: usize,
 }
 
-// Row y of a plane of a level that lies at target. Refusal 19.
-pub fn placed_at(
-    target: Region,
-    layout: Layout,
-    level: u32,
-    plane: usize,
-    y: usize,
-) -> Result<Run, Refusal>
-    requires { (layout_no layout ≡ 0) × (level < levels_of layout) × (target ≡ region_at layout level) }
-    ensures { placed result ≡ if_done (refuse (no_row layout level plane y) 19) (run_of layout level plane y) no_run }
-{
-    if (stored(layout, level) <= plane) | (target.height <= y) {
-        return Err(Refusal::NoRow);
+impl Level {
+    // Row y of a plane. Refusal 19.
+    pub fn row(self, plane: usize, y: usize) -> Result<Run, Refusal>
+        ensures { placed result ≡ if_done (refuse (no_row self.layout.layout self.level plane y) 19) (run_of self.layout.layout self.level plane y) no_run }
+    {
+        let layout = self.layout.layout;
+        let target = self.region;
+        if (stored(layout, self.level) <= plane) | (target.height <= y) {
+            return Err(Refusal::NoRow);
+        }
+        Ok(Run {
+            offset: target.offset + (plane * target.height + y) * layout.pitch,
+            length: target.width,
+        })
     }
-    Ok(Run {
-        offset: target.offset + (plane * target.height + y) * layout.pitch,
-        length: target.width,
-    })
 }
 
-// Row y of a plane of a level, in a frame that is long enough. A level that isn't there is told first: no walk reaches it. Refusal 19.
-pub fn row_in(layout: Layout, level: u32, plane: usize, y: usize) -> Result<Run, Refusal>
-    requires { layout_no layout ≡ 0 }
-    ensures { placed result ≡ if_done (refuse (no_row layout level plane y) 19) (run_of layout level plane y) no_run }
-{
-    if layout.opts.naturals().levels <= level {
-        return Err(Refusal::NoRow);
+impl Fitting {
+    // Row y of a plane of a level, in a frame that is long enough. A level that isn't there is told first: no walk reaches it. Refusal 19.
+    pub fn row_in(self, level: u32, plane: usize, y: usize) -> Result<Run, Refusal>
+        ensures { placed result ≡ if_done (refuse (no_row self.layout level plane y) 19) (run_of self.layout level plane y) no_run }
+    {
+        if self.layout.opts.naturals().levels <= level {
+            return Err(Refusal::NoRow);
+        }
+        Descent::top(self).down(level).here().row(plane, y)
     }
-    let at = Descent::top(layout).down(layout, 0, level);
-    let target = at.region(layout, level);
-    placed_at(target, layout, level, plane, y)
 }
 
 // The frame's own bytes where an answer says that they lie, none where it is refused.

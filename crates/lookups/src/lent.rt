@@ -3,12 +3,10 @@ ghost use Rattle.std.specs.Prelude.{◌≡◌};
 ghost use Rattle.settings.specs.Answers.{tested};
 ghost use Rattle.lookups.specs.Refusals.{stored_build_no};
 
-use crate::ends::end;
-use layouts::lent::lent_tested;
 use layouts::levels::{bad_pitch, width};
 use settings::refusal::{BadLent, Refusal};
 use settings::super_opts::SuperOpts;
-use stored::layout::{tested, view};
+use stored::passed::Stored;
 
 // Refusals 6, 32, 9 to 13.
 pub fn build_tested(
@@ -22,11 +20,10 @@ pub fn build_tested(
 ) -> Result<(), Refusal>
     ensures { tested result ≡ stored_build_no opts layout.now src src_pitch frame spill scratch }
 {
-    tested(opts, layout)?;
-    let q = view(opts, layout);
-    if bad_pitch(src_pitch, width(q, 0)) {
+    let stored = Stored::of(opts, layout)?;
+    let q = stored.layout();
+    if bad_pitch(src_pitch, width(q.layout, 0)) {
         return Err(Refusal::Lent(BadLent::SourcePitch));
     }
-    let end = end(opts, layout);
-    lent_tested(q, end, src, src_pitch, frame, spill, scratch)
+    q.lent_tested(stored.end(), src, src_pitch, frame, spill, scratch)
 }

@@ -3,27 +3,28 @@ ghost use Rattle.std.specs.Prelude.{◌≡◌, ◌≤◌, length};
 ghost use Rattle.settings.specs.Answers.{answer, tested};
 ghost use Rattle.layouts.specs.Layout.{written_end};
 ghost use Rattle.layouts.specs.Margins.{cleared};
-ghost use Rattle.layouts.specs.Refusals.{layout_no};
 ghost use Rattle.lookups.specs.Answers.{clear_answer};
 
-use crate::ends::end;
 use layouts::descent::Descent;
-use layouts::layout::Layout;
-use layouts::margins::clear_level;
+use layouts::fitting::Fitting;
+use layouts::level::Later;
 use settings::refusal::{BadLent, Refusal};
 use settings::super_opts::SuperOpts;
-use stored::layout::{tested, view};
+use stored::passed::Stored;
 
-fn clear_levels(frame: &mut [u8], layout: Layout)
-    requires { (layout_no layout ≡ 0) × (written_end layout ≤ length frame.old) }
-    ensures { frame.new ≡ cleared layout frame.old }
+fn clear_levels(frame: &mut [u8], fitting: Fitting)
+    requires { written_end fitting.layout ≤ length frame.old }
+    ensures { frame.new ≡ cleared fitting.layout frame.old }
 {
-    let levels = layout.opts.naturals().levels;
-    let mut above = Descent::top(layout);
+    let levels = fitting.layout.opts.naturals().levels;
+    let mut above = Descent::top(fitting);
     for level in 1..levels {
-        let at = above.next(layout, level - 1);
-        let target = at.region(layout, level);
-        clear_level(frame, layout, level, above.offset, target);
+        let at = above.next();
+        let later = Later {
+            base: above.offset,
+            at: at.here(),
+        };
+        later.clear(frame);
         above = at;
     }
 }
@@ -32,10 +33,10 @@ fn clear_levels(frame: &mut [u8], layout: Layout)
 pub fn clear_margins(frame: &mut [u8], opts: SuperOpts, layout: &[usize]) -> Result<(), Refusal>
     ensures { answer (tested result) frame.new ≡ clear_answer opts layout.now frame.old }
 {
-    tested(opts, layout)?;
-    if frame.len() < end(opts, layout) {
+    let stored = Stored::of(opts, layout)?;
+    if frame.len() < stored.end() {
         return Err(Refusal::Lent(BadLent::Frame));
     }
-    clear_levels(frame, view(opts, layout));
+    clear_levels(frame, stored.layout());
     Ok(())
 }

@@ -4,16 +4,14 @@ ghost use Rattle.std.specs.Prelude.{◌≡◌, length};
 ghost use Rattle.settings.specs.Answers.{tested};
 ghost use Rattle.layouts.specs.Storing.{part_at};
 ghost use Rattle.layouts.specs.Answers.{placed};
-ghost use Rattle.stored.specs.Refusals.{stored_no};
 ghost use Rattle.lookups.specs.Refusals.{row_no};
 ghost use Rattle.lookups.specs.Answers.{place_answer, row_part, row_from, planed, level_plane_answer};
 
-use crate::ends::end;
-use layouts::levels::stored;
-use layouts::rows::{Run, hand_out, placed_at};
+use layouts::levels::stored as planes;
+use layouts::rows::{Run, hand_out};
 use settings::refusal::{BadLent, Refusal};
 use settings::super_opts::SuperOpts;
-use stored::layout::{COUNT, PITCH, region_in, tested, view};
+use stored::passed::Stored;
 
 // Row y of it begins y pitches after its start, and has width bytes.
 #[derive(Clone, Copy)]
@@ -24,31 +22,17 @@ pub struct Plane {
     pub pitch: usize,
 }
 
-// Of a layout that passed the test, in a frame of len bytes. Refusals 11 and 19.
-fn row_within(
-    opts: SuperOpts,
-    layout: &[usize],
-    len: usize,
-    level: u32,
-    plane: usize,
-    y: usize,
-) -> Result<Run, Refusal>
-    requires { stored_no opts layout.now ≡ 0 }
-    ensures { placed result ≡ place_answer opts layout.now len level plane y }
+// In a frame of len bytes. Refusals 11 and 19.
+fn row_within(stored: Stored, len: usize, level: u32, plane: usize, y: usize) -> Result<Run, Refusal>
+    ensures { placed result ≡ place_answer stored.entry.opts stored.entry.numbers.now len level plane y }
 {
-    if len < end(opts, layout) {
+    if len < stored.end() {
         return Err(Refusal::Lent(BadLent::Frame));
     }
-    if layout[COUNT] <= level as usize {
+    if stored.levels() <= level {
         return Err(Refusal::NoRow);
     }
-    placed_at(
-        region_in(layout, level),
-        view(opts, layout),
-        level,
-        plane,
-        y,
-    )
+    stored.level(level).row(plane, y)
 }
 
 // Where row y of a plane of a level lies, in a frame of len bytes. Refusals 6, 32, 11 and 19.
@@ -62,8 +46,8 @@ pub fn row_place(
 ) -> Result<Run, Refusal>
     ensures { placed result ≡ place_answer opts layout.now len level plane y }
 {
-    tested(opts, layout)?;
-    row_within(opts, layout, len, level, plane, y)
+    let stored = Stored::of(opts, layout)?;
+    row_within(stored, len, level, plane, y)
 }
 
 // What that row is refused with: 6, 32, 11 or 19.
@@ -96,32 +80,27 @@ pub fn row<'a>(
     hand_out(frame, at)
 }
 
-// Of a layout that passed the test, in a frame of len bytes. Refusals 11 and 19.
-fn plane_within(
-    opts: SuperOpts,
-    layout: &[usize],
-    len: usize,
-    level: u32,
-    plane: usize,
-) -> Result<Plane, Refusal>
-    requires { stored_no opts layout.now ≡ 0 }
-    ensures { planed result ≡ level_plane_answer opts layout.now len level plane }
+// In a frame of len bytes. Refusals 11 and 19.
+fn plane_within(stored: Stored, len: usize, level: u32, plane: usize) -> Result<Plane, Refusal>
+    ensures { planed result ≡ level_plane_answer stored.entry.opts stored.entry.numbers.now len level plane }
 {
-    if len < end(opts, layout) {
+    if len < stored.end() {
         return Err(Refusal::Lent(BadLent::Frame));
     }
-    if layout[COUNT] <= level as usize {
+    if stored.levels() <= level {
         return Err(Refusal::NoRow);
     }
-    if stored(view(opts, layout), level) <= plane {
+    let at = stored.level(level);
+    let layout = at.layout.layout;
+    if planes(layout, level) <= plane {
         return Err(Refusal::NoRow);
     }
-    let r = region_in(layout, level);
+    let r = at.region;
     Ok(Plane {
-        start: r.offset + plane * r.height * layout[PITCH],
+        start: r.offset + plane * r.height * layout.pitch,
         width: r.width,
         height: r.height,
-        pitch: layout[PITCH],
+        pitch: layout.pitch,
     })
 }
 
@@ -135,6 +114,6 @@ pub fn level_plane(
 ) -> Result<Plane, Refusal>
     ensures { planed result ≡ level_plane_answer opts layout.now len level plane }
 {
-    tested(opts, layout)?;
-    plane_within(opts, layout, len, level, plane)
+    let stored = Stored::of(opts, layout)?;
+    plane_within(stored, len, level, plane)
 }

@@ -3,7 +3,6 @@
 ghost use Rattle.std.specs.Prelude.{◌≡◌, cond, ◌++◌, ◌≤◌, length};
 ghost use Rattle.settings.specs.Answers.{tested};
 ghost use Rattle.layouts.specs.Layout.{levels_of, written_end, spill_need, scratch_need};
-ghost use Rattle.layouts.specs.Refusals.{layout_no};
 ghost use Rattle.layouts.specs.Room.{Ready};
 ghost use Rattle.planes.specs.Build.{copied, refined, built_by, frame_by, LeavesBy, BuildLeaves};
 
@@ -13,13 +12,13 @@ use builder::canvas::put;
 use builder::refining::{Interp, refine};
 use filters::half_pel::HalfPel;
 use filters::rows::zero_row;
+use layouts::fitting::Fitting;
 use layouts::layout::Layout;
-use layouts::lent::spill_need;
 use layouts::levels::{height, width};
 use lookups::lent::build_tested;
 use settings::refusal::Refusal;
 use settings::super_opts::SuperOpts;
-use stored::layout::view;
+use stored::passed::Stored;
 
 // Level 0, where it is stored: the source plane's rows, src_pitch apart.
 fn copy_rows(frame: &mut [u8], layout: Layout, src: &[u8], src_pitch: usize)
@@ -37,10 +36,11 @@ fn copy_rows(frame: &mut [u8], layout: Layout, src: &[u8], src_pitch: usize)
 }
 
 // Whether level 0's planes are refined, and the refining.
-fn refine_planes(frame: &mut [u8], spill: &mut [u8], scratch: &mut [u8], layout: Layout)
-    requires { (layout_no layout ≡ 0) × (1 ≤ levels_of layout) × (written_end layout ≤ length frame.old) × (spill_need layout ≤ length spill.old) × (scratch_need layout ≤ length scratch.old) }
-    ensures { frame.new ++ spill.new ≡ refined layout (frame.old ++ spill.old) }
+fn refine_planes(frame: &mut [u8], spill: &mut [u8], scratch: &mut [u8], fitting: Fitting)
+    requires { (1 ≤ levels_of fitting.layout) × (written_end fitting.layout ≤ length frame.old) × (spill_need fitting.layout ≤ length spill.old) × (scratch_need fitting.layout ≤ length scratch.old) }
+    ensures { frame.new ++ spill.new ≡ refined fitting.layout (frame.old ++ spill.old) }
 {
+    let layout = fitting.layout;
     let opts = layout.opts;
     let n = opts.naturals();
     let refines = (n.pel > 1) & (n.gpu < 2) & opts.full;
@@ -61,19 +61,19 @@ fn build_levels(
     frame: &mut [u8],
     spill: &mut [u8],
     scratch: &mut [u8],
-    layout: Layout,
+    fitting: Fitting,
     src: &[u8],
     src_pitch: usize,
 )
-    requires { Ready layout (length src.now) src_pitch (length frame.old) (length spill.old) (length scratch.old) }
-    ensures { frame.new ++ spill.new ≡ built_by fuse layout src.now src_pitch (length frame.old) (frame.old ++ spill.old) }
+    requires { Ready fitting.layout (length src.now) src_pitch (length frame.old) (length spill.old) (length scratch.old) }
+    ensures { frame.new ++ spill.new ≡ built_by fuse fitting.layout src.now src_pitch (length frame.old) (frame.old ++ spill.old) }
 {
-    if layout.opts.naturals().levels == 0 {
+    if fitting.layout.opts.naturals().levels == 0 {
         return;
     }
-    copy_rows(frame, layout, src, src_pitch);
-    reduce_levels(fuse, frame, spill, scratch, layout, src, src_pitch);
-    refine_planes(frame, spill, scratch, layout);
+    copy_rows(frame, fitting.layout, src, src_pitch);
+    reduce_levels(fuse, frame, spill, scratch, fitting, src, src_pitch);
+    refine_planes(frame, spill, scratch, fitting);
 }
 
 // The build itself, for calls that have tested what they are lent. As much of the spill as it may read holds zeros before.
@@ -82,17 +82,17 @@ pub fn build_spilled(
     frame: &mut [u8],
     spill: &mut [u8],
     scratch: &mut [u8],
-    layout: Layout,
+    fitting: Fitting,
     src: &[u8],
     src_pitch: usize,
 )
-    requires { Ready layout (length src.now) src_pitch (length frame.old) (length spill.old) (length scratch.old) }
-    ensures { frame.new ≡ frame_by fuse layout src.now src_pitch frame.old }
+    requires { Ready fitting.layout (length src.now) src_pitch (length frame.old) (length spill.old) (length scratch.old) }
+    ensures { frame.new ≡ frame_by fuse fitting.layout src.now src_pitch frame.old }
 {
-    let need = spill_need(layout);
+    let need = fitting.spill_need();
     let beyond = &mut spill[..need];
     zero_row(beyond);
-    build_levels(fuse, frame, beyond, scratch, layout, src, src_pitch);
+    build_levels(fuse, frame, beyond, scratch, fitting, src, src_pitch);
 }
 
 // For a site that turned the fused path off and asks what it may compare: the comparison with the Rust runs both with the path off.
@@ -117,8 +117,11 @@ pub fn build_plane_by(
         spill.len(),
         scratch.len(),
     )?;
-    let q = view(opts, layout);
-    build_spilled(fuse, frame, spill, scratch, q, src, src_pitch);
+    let stored = Stored {
+        opts,
+        numbers: layout,
+    };
+    build_spilled(fuse, frame, spill, scratch, stored.layout(), src, src_pitch);
     zero_row(spill);
     zero_row(scratch);
     Ok(())

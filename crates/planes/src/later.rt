@@ -1,7 +1,6 @@
 // Later levels, each from the level before it or from the source plane: open-svpflow's `reduce`, and the walk over the levels.
-ghost use Rattle.std.specs.Prelude.{◌≡◌, ◌++◌, ◌-◌, ◌≤◌, ◌<◌, length, Some};
+ghost use Rattle.std.specs.Prelude.{◌≡◌, ◌++◌, ◌≤◌, length, Some};
 ghost use Rattle.filters.specs.Halve.{chosen};
-ghost use Rattle.layouts.specs.Layout.{levels_of, offset_at, region_at};
 ghost use Rattle.layouts.specs.Room.{Ready};
 ghost use Rattle.planes.specs.Build.{level_by, halved_by};
 
@@ -9,8 +8,8 @@ use builder::halving::{reduce_cubic, reduce_within};
 use builder::separate::reduce_separate;
 use filters::halving::ReduceFilter;
 use layouts::descent::Descent;
-use layouts::layout::{Layout, Region};
-use layouts::margins::fuses;
+use layouts::fitting::Fitting;
+use layouts::level::Later;
 
 fn reduce(
     fuse: bool,
@@ -18,23 +17,22 @@ fn reduce(
     frame: &mut [u8],
     spill: &mut [u8],
     scratch: &mut [u8],
-    layout: Layout,
+    later: Later,
     src: &[u8],
     src_pitch: usize,
-    level: u32,
-    base: usize,
-    target: Region,
 )
-    requires { Ready layout (length src.now) src_pitch (length frame.old) (length spill.old) (length scratch.old) × (1 ≤ level) × (level < levels_of layout) × (base ≡ offset_at layout (level - 1)) × (target ≡ region_at layout level) }
-    ensures { frame.new ++ spill.new ≡ level_by fuse layout src.now src_pitch (length frame.old) filter level (frame.old ++ spill.old) }
+    requires { Ready later.at.layout.layout (length src.now) src_pitch (length frame.old) (length spill.old) (length scratch.old) × (1 ≤ later.at.level) }
+    ensures { frame.new ++ spill.new ≡ level_by fuse later.at.layout.layout src.now src_pitch (length frame.old) filter later.at.level (frame.old ++ spill.old) }
 {
+    let layout = later.at.layout.layout;
     let pitch = layout.pitch;
-    if fuse & fuses(layout, level, base, target, frame.len()) {
-        reduce_cubic(frame, scratch, base, pitch, target);
+    let target = later.at.region;
+    if fuse & later.fuses(frame.len()) {
+        reduce_cubic(frame, scratch, later.base, pitch, target);
         return;
     }
-    if layout.opts.full | (level >= 2) {
-        reduce_within(filter, frame, scratch, base, pitch, target);
+    if layout.opts.full | (later.at.level >= 2) {
+        reduce_within(filter, frame, scratch, later.base, pitch, target);
         return;
     }
     reduce_separate(filter, frame, spill, scratch, src, src_pitch, pitch, target);
@@ -46,30 +44,30 @@ fn reduce_each(
     frame: &mut [u8],
     spill: &mut [u8],
     scratch: &mut [u8],
-    layout: Layout,
+    fitting: Fitting,
     src: &[u8],
     src_pitch: usize,
 )
-    requires { Ready layout (length src.now) src_pitch (length frame.old) (length spill.old) (length scratch.old) }
-    ensures { frame.new ++ spill.new ≡ halved_by fuse layout src.now src_pitch (length frame.old) (Some filter) (frame.old ++ spill.old) }
+    requires { Ready fitting.layout (length src.now) src_pitch (length frame.old) (length spill.old) (length scratch.old) }
+    ensures { frame.new ++ spill.new ≡ halved_by fuse fitting.layout src.now src_pitch (length frame.old) (Some filter) (frame.old ++ spill.old) }
 {
-    let levels = layout.opts.naturals().levels;
-    let mut above = Descent::top(layout);
+    let levels = fitting.layout.opts.naturals().levels;
+    let mut above = Descent::top(fitting);
     for level in 1..levels {
-        let at = above.next(layout, level - 1);
-        let target = at.region(layout, level);
+        let at = above.next();
+        let later = Later {
+            base: above.offset,
+            at: at.here(),
+        };
         reduce(
             fuse,
             filter,
             frame,
             spill,
             scratch,
-            layout,
+            later,
             src,
             src_pitch,
-            level,
-            above.offset,
-            target,
         );
         above = at;
     }
@@ -80,15 +78,15 @@ pub fn reduce_levels(
     frame: &mut [u8],
     spill: &mut [u8],
     scratch: &mut [u8],
-    layout: Layout,
+    fitting: Fitting,
     src: &[u8],
     src_pitch: usize,
 )
-    requires { Ready layout (length src.now) src_pitch (length frame.old) (length spill.old) (length scratch.old) }
-    ensures { frame.new ++ spill.new ≡ halved_by fuse layout src.now src_pitch (length frame.old) (chosen layout.opts.scale_down) (frame.old ++ spill.old) }
+    requires { Ready fitting.layout (length src.now) src_pitch (length frame.old) (length spill.old) (length scratch.old) }
+    ensures { frame.new ++ spill.new ≡ halved_by fuse fitting.layout src.now src_pitch (length frame.old) (chosen fitting.layout.opts.scale_down) (frame.old ++ spill.old) }
 {
-    let Some(filter) = ReduceFilter::from_option(layout.opts.scale_down) else {
+    let Some(filter) = ReduceFilter::from_option(fitting.layout.opts.scale_down) else {
         return;
     };
-    reduce_each(fuse, filter, frame, spill, scratch, layout, src, src_pitch);
+    reduce_each(fuse, filter, frame, spill, scratch, fitting, src, src_pitch);
 }

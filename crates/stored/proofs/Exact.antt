@@ -9,11 +9,12 @@ use native.Mathlib.Omega.{arith}
 use lib.Dec.{eqb, leb}
 use lib.ListN.{length, get_or}
 use borrow.Author.Tests.{eqb-true, eq-eqb, le-leb, leb-true, le-ltb, not-true, not-false}
+use Rattle.std.specs.Borrow.{Bor}
 use Rattle.settings.specs.declared.super_opts.SuperOpts.{SuperOpts}
 use Rattle.settings.specs.Limits.{most_levels}
 use Rattle.settings.specs.Numbers.{refuse}
 use Rattle.settings.specs.Check.{accepted, record_no}
-use Rattle.settings.specs.Answers.{answer}
+use Rattle.settings.specs.Answers.{Answer, answer}
 use Rattle.settings.proofs.Tests.{and_left, and_right, yes_no, clash, false_by}
 use Rattle.settings.proofs.Refusals.{then_rest, refuse_not}
 use Rattle.settings.proofs.Known.{given, number_of, value_given}
@@ -201,3 +202,13 @@ pub made_passes : (q : Layout) → layout_no q ≡ 0 → stored_no q.opts (store
 made_passes q none =
     let v = view_stored q in
     passes q.opts (stored_of q) (record { layout = ap layout_no v ∙ none; made = ap stored_of (sym v) })
+
+-- ---- what a test leaves of what it was given, and its number where it refuses that
+pub none_told : {r t : SuperOpts} {l m : Bor (List ℕ)} {n : ℕ} → answer {A = SuperOpts × Bor (List ℕ)} 0 (t, m) ≡ answer n (r, l) → n ≡ 0
+none_told e = sym (ap (λ (a : Answer (SuperOpts × Bor (List ℕ))). a.no) e)
+
+pub view_kept : {r t : SuperOpts} {l m : Bor (List ℕ)} {n : ℕ} → answer {A = SuperOpts × Bor (List ℕ)} 0 (t, m) ≡ answer n (r, l) → view_of t m.now ≡ view_of r l.now
+view_kept e = ap (λ (a : Answer (SuperOpts × Bor (List ℕ))). view_of a.value.0 a.value.1.now) e
+
+pub number_told : {r : SuperOpts} {l : Bor (List ℕ)} {k n : ℕ} → answer {A = SuperOpts × Bor (List ℕ)} k (r, l) ≡ answer n (r, l) → k ≡ n
+number_told e = ap (λ (a : Answer (SuperOpts × Bor (List ℕ))). a.no) e

@@ -3,8 +3,10 @@
 --     Refusals   the number of a stored layout that is handed in
 --     Answers    the number and value of making and changing
 --     Inner      inner: the test, level by level
+--     Passed     inner: numbers that passed it
 -- What is proved of these is in proofs/.
 pub mod Layout
 pub mod Refusals
 pub mod Answers
 pub mod Inner
+pub mod Passed

@@ -6,15 +6,14 @@ ghost use Rattle.settings.specs.Limits.{most_levels};
 ghost use Rattle.settings.specs.Check.{accepted};
 ghost use Rattle.settings.specs.Answers.{tested};
 ghost use Rattle.layouts.specs.Layout.{levels_of};
-ghost use Rattle.layouts.specs.Refusals.{layout_no};
 ghost use Rattle.stored.specs.Layout.{most_numbers, stored_of, view_of, is_stored};
 ghost use Rattle.stored.specs.Inner.{has_view, region_in, same_region, every_level, same_at};
 ghost use Rattle.stored.specs.Refusals.{stored_no};
 ghost use Rattle.stored.specs.Answers.{laid, layout_answer, change_answer};
 
 use layouts::descent::Descent;
+use layouts::fitting::Fitting;
 use layouts::layout::{Layout, Region};
-use layouts::levels;
 use layouts::levels::{bad_pitch, least_pitch};
 use settings::limits::MOST_LEVELS;
 use settings::refusal::{BadLayout, Refusal, refuse_if};
@@ -44,24 +43,25 @@ fn zero(numbers: &mut [usize])
     }
 }
 
-// Makes a layout where the caller has room for it: for calls that have tested what it is made from.
-pub fn fill(numbers: &mut [usize], layout: Layout)
-    requires { (layout_no layout ≡ 0) × (length numbers.old ≡ most_numbers) }
-    ensures { numbers.new ≡ stored_of layout }
+// Makes a layout where the caller has room for it.
+pub fn fill(numbers: &mut [usize], fitting: Fitting)
+    requires { length numbers.old ≡ most_numbers }
+    ensures { numbers.new ≡ stored_of fitting.layout }
 {
+    let layout = fitting.layout;
     let levels = layout.opts.naturals().levels;
     numbers[COUNT] = levels as usize;
     numbers[X_SHIFT] = layout.x_shift as usize;
     numbers[Y_SHIFT] = layout.y_shift as usize;
     numbers[PITCH] = layout.pitch;
-    let mut at = Descent::top(layout);
+    let mut at = Descent::top(fitting);
     for level in 0..levels {
-        let r = at.region(layout, level);
+        let r = at.region();
         let i = HEAD + STEP * level as usize;
         numbers[i] = r.offset;
         numbers[i + 1] = r.width;
         numbers[i + 2] = r.height;
-        at = at.next(layout, level);
+        at = at.next();
     }
     let from = HEAD + STEP * levels as usize;
     zero(&mut numbers[from..]);
@@ -71,9 +71,9 @@ pub fn fill(numbers: &mut [usize], layout: Layout)
 pub fn level_regions(layout: Layout) -> Result<[usize; LAYOUT], Refusal>
     ensures { laid result ≡ layout_answer layout }
 {
-    levels::tested(layout)?;
+    let fitting = Fitting::of(layout)?;
     let mut numbers = [0; LAYOUT];
-    fill(&mut numbers, layout);
+    fill(&mut numbers, fitting);
     Ok(numbers)
 }
 
@@ -113,7 +113,7 @@ pub fn region_in(numbers: &[usize], level: u32) -> Region
 
 // The places past the last level, where those before are as making gives them.
 fn ends_in_zeros(numbers: &[usize], layout: Layout, levels: u32) -> bool
-    requires { (layout_no layout ≡ 0) × (levels ≡ levels_of layout) × (length numbers.now ≡ most_numbers) × (every_level (same_at layout numbers.now) levels ≡ true) }
+    requires { (levels ≡ levels_of layout) × (length numbers.now ≡ most_numbers) × (every_level (same_at layout numbers.now) levels ≡ true) }
     ensures { result ≡ every_level (same_at layout numbers.now) most_levels }
 {
     let none = Region {
@@ -130,17 +130,18 @@ fn ends_in_zeros(numbers: &[usize], layout: Layout, levels: u32) -> bool
 }
 
 // One walk down the levels, with a comparison each.
-fn has_regions(numbers: &[usize], layout: Layout) -> bool
-    requires { (layout_no layout ≡ 0) × (length numbers.now ≡ most_numbers) }
-    ensures { result ≡ every_level (same_at layout numbers.now) most_levels }
+fn has_regions(numbers: &[usize], fitting: Fitting) -> bool
+    requires { length numbers.now ≡ most_numbers }
+    ensures { result ≡ every_level (same_at fitting.layout numbers.now) most_levels }
 {
+    let layout = fitting.layout;
     let levels = layout.opts.naturals().levels;
-    let mut at = Descent::top(layout);
+    let mut at = Descent::top(fitting);
     for level in 0..levels {
-        if region_in(numbers, level) != at.region(layout, level) {
+        if region_in(numbers, level) != at.region() {
             return false;
         }
-        at = at.next(layout, level);
+        at = at.next();
     }
     ends_in_zeros(numbers, layout, levels)
 }
@@ -160,7 +161,7 @@ fn is_stored(opts: SuperOpts, numbers: &[usize]) -> bool
     if numbers[COUNT] != opts.naturals().levels as usize {
         return false;
     }
-    has_regions(numbers, layout)
+    has_regions(numbers, Fitting { layout })
 }
 
 // Whether they are the layout that the record gives for their own shifts and pitch. Refusals 6 and 32.

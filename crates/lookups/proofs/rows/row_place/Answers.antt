@@ -3,14 +3,15 @@ use Rattle.std.proofs.lemmas.Result.{err_from_is_err_and}
 use Rattle.settings.proofs.Known.{refused}
 use Rattle.layouts.specs.Answers.{run_of, no_run}
 use Rattle.stored.specs.Layout.{view_of}
+use Rattle.stored.proofs.Exact.{number_told}
 use Rattle.lookups.specs.Refusals.{row_no}
 use Rattle.lookups.proofs.Numbers.{frame_kept, row_kept}
 use Rattle.lookups.proofs.rows.row_place.Goals as goal
 
-pub returns-in_err-tested : goal.returns-in_err-tested
-returns-in_err-tested c =
+pub returns-in_err-stored : goal.returns-in_err-stored
+returns-in_err-stored c =
     let s = c.args in
     let p = err_from_is_err_and c.from_residual.result c.from_residual.ensures.1 in
-    let r = c.in_err-tested.field-0.0 in
-    let e = c.in_err-tested.ensures in
+    let r = c.in_err-stored.field-0.0 in
+    let e = number_told c.in_err-stored.ensures in
     rw (p.1, p.2) (refused (row_no s.opts s.layout.now s.len s.level s.plane s.y) r (run_of (view_of s.opts s.layout.now) s.level s.plane s.y) no_run (row_kept s.opts s.layout.now s.len r s.level s.plane s.y (frame_kept s.opts s.layout.now s.len r e)))

@@ -11,6 +11,6 @@ pub returns : goal.returns
 returns c =
     let part : length (take c.spill_need-need.result c.args.spill.now) ≡ c.spill_need-need.result = length-take-le c.spill_need-need.result c.args.spill.now (omega (arith, c.spill_need-need.ensures, c.requires.spills)) in
     let a = c.args in
-    frame_left_lem a.fuse a.layout a.src.now a.frame.now _ _ _ a.src_pitch c.build_levels.auto.frame
+    frame_left_lem a.fuse a.fitting.layout a.src.now a.frame.now _ _ _ a.src_pitch c.build_levels.auto.frame
     (c.zero_row.ensures ∙ ap (λ (k : ℕ). replicate k 0) (part ∙ c.spill_need-need.ensures))
     c.build_levels.ensures

@@ -15,24 +15,24 @@ use Rattle.planes.proofs.build.refine_planes.Goals as goal
 
 pub returns-then-not-refines : goal.returns-then-not-refines
 returns-then-not-refines c =
-    let tests : (ltb 1 c.naturals-n.result.pel && ltb c.naturals-n.result.gpu 2 && c.args.layout.opts.full) ≡ refines c.args.layout = ap (λ (x : Naturals). ltb 1 x.pel && ltb x.gpu 2 && c.args.layout.opts.full) c.naturals-n.ensures in
+    let tests : (ltb 1 c.naturals-n.result.pel && ltb c.naturals-n.result.gpu 2 && c.args.fitting.layout.opts.full) ≡ refines c.args.fitting.layout = ap (λ (x : Naturals). ltb 1 x.pel && ltb x.gpu 2 && c.args.fitting.layout.opts.full) c.naturals-n.ensures in
     let a = c.args in
-    refined_no a.layout _ (sym (tests) ∙ not-true _ c.if-not-refines.true-raw)
+    refined_no a.fitting.layout _ (sym (tests) ∙ not-true _ c.if-not-refines.true-raw)
 
 pub refine-requires : goal.refine-requires
 refine-requires c =
-    let tests : (ltb 1 c.naturals-n.result.pel && ltb c.naturals-n.result.gpu 2 && c.args.layout.opts.full) ≡ refines c.args.layout = ap (λ (x : Naturals). ltb 1 x.pel && ltb x.gpu 2 && c.args.layout.opts.full) c.naturals-n.ensures in
+    let tests : (ltb 1 c.naturals-n.result.pel && ltb c.naturals-n.result.gpu 2 && c.args.fitting.layout.opts.full) ≡ refines c.args.fitting.layout = ap (λ (x : Naturals). ltb 1 x.pel && ltb x.gpu 2 && c.args.fitting.layout.opts.full) c.naturals-n.ensures in
     let pre = c.requires in
-    refine_ready c.args.layout _ _ _ (ap (λ (x : Naturals). x.pel) c.naturals-n.ensures) c.width.ensures c.height.ensures
+    refine_ready c.args.fitting.layout _ _ _ (ap (λ (x : Naturals). x.pel) c.naturals-n.ensures) c.width.ensures c.height.ensures
     (sym (tests) ∙ not-false _ c.if-not-refines.false-raw)
-    _ _ _ pre.0 pre.1 pre.2 pre.3 pre.4
+    _ _ _ c.args.fitting.fits pre.0 pre.1 pre.2 pre.3
 
 pub returns : goal.returns
 returns c =
-    let tests : (ltb 1 c.naturals-n.result.pel && ltb c.naturals-n.result.gpu 2 && c.args.layout.opts.full) ≡ refines c.args.layout = ap (λ (x : Naturals). ltb 1 x.pel && ltb x.gpu 2 && c.args.layout.opts.full) c.naturals-n.ensures in
-    let chosen : c.from_option-upscale.result ≡ upscale c.args.layout.opts.scale_up = c.from_option-upscale.ensures ∙ ap upscale (to_z-of_z {w = w32} (search rules)) in
+    let tests : (ltb 1 c.naturals-n.result.pel && ltb c.naturals-n.result.gpu 2 && c.args.fitting.layout.opts.full) ≡ refines c.args.fitting.layout = ap (λ (x : Naturals). ltb 1 x.pel && ltb x.gpu 2 && c.args.fitting.layout.opts.full) c.naturals-n.ensures in
+    let chosen : c.from_option-upscale.result ≡ upscale c.args.fitting.layout.opts.scale_up = c.from_option-upscale.ensures ∙ ap upscale (to_z-of_z {w = w32} (search rules)) in
     let a = c.args in
     c.refine.ensures
-    ∙ refined_yes a.layout _ _ _ (ap (λ (x : Naturals). x.pel) c.naturals-n.ensures) c.width.ensures c.height.ensures
+    ∙ refined_yes a.fitting.layout _ _ _ (ap (λ (x : Naturals). x.pel) c.naturals-n.ensures) c.width.ensures c.height.ensures
     (sym (tests) ∙ not-false _ c.if-not-refines.false-raw)
     c.from_option-upscale.result (a.frame.now ++ a.spill.now) (chosen)

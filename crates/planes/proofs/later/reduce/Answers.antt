@@ -12,26 +12,36 @@ test fuse fuses e = ap (λ (b : Bool). fuse && b) (sym e)
 pub reduce_cubic-requires : goal.reduce_cubic-requires
 reduce_cubic-requires c =
     let s = c.requires in
+    let t = c.args.later in
     let e = and_right c.args.fuse _ (test c.args.fuse c.fuses.result c.fuses.ensures ∙ c.if-fuse-fuses.true) in
-    (within_here _ s.0 _ s.1 s.2 s.3 s.4 (fused_stored _ _ _ e), rw s.4 (fused_whole _ _ _ e))
+    (within_here _ s.0 _ s.1 t.at.there t.above t.at.lies (fused_stored _ _ _ e), rw t.at.lies (fused_whole _ _ _ e))
 
 pub returns-then-fuse-fuses : goal.returns-then-fuse-fuses
 returns-then-fuse-fuses c =
     let s = c.requires in
-    by_fused _ s.0 _ s.1 s.2 s.3 s.4 _ _ _ _ _ refl (test c.args.fuse c.fuses.result c.fuses.ensures ∙ c.if-fuse-fuses.true) c.reduce_cubic.ensures
+    let t = c.args.later in
+    by_fused _ s.0 _ s.1 t.at.there t.above t.at.lies _ _ _ _ _ refl (test c.args.fuse c.fuses.result c.fuses.ensures ∙ c.if-fuse-fuses.true) c.reduce_cubic.ensures
 
 pub reduce_within-requires : goal.reduce_within-requires
-reduce_within-requires c = let s = c.requires in within_here _ s.0 _ s.1 s.2 s.3 s.4 c.if-layout-level.true
-
-pub returns-then-layout-level : goal.returns-then-layout-level
-returns-then-layout-level c =
+reduce_within-requires c =
     let s = c.requires in
-    by_stored _ s.0 _ s.1 s.2 s.3 s.4 _ _ _ _ _ refl (test c.args.fuse c.fuses.result c.fuses.ensures ∙ c.if-fuse-fuses.false) c.if-layout-level.true c.reduce_within.ensures
+    let t = c.args.later in
+    within_here _ s.0 _ s.1 t.at.there t.above t.at.lies c.if-layout-later.true
+
+pub returns-then-layout-later : goal.returns-then-layout-later
+returns-then-layout-later c =
+    let s = c.requires in
+    let t = c.args.later in
+    by_stored _ s.0 _ s.1 t.at.there t.above t.at.lies _ _ _ _ _ refl (test c.args.fuse c.fuses.result c.fuses.ensures ∙ c.if-fuse-fuses.false) c.if-layout-later.true c.reduce_within.ensures
 
 pub reduce_separate-requires : goal.reduce_separate-requires
-reduce_separate-requires c = let s = c.requires in spread_here _ s.0 _ s.1 s.2 s.3 s.4 c.if-layout-level.false
+reduce_separate-requires c =
+    let s = c.requires in
+    let t = c.args.later in
+    spread_here _ s.0 _ s.1 t.at.there t.above t.at.lies c.if-layout-later.false
 
 pub returns : goal.returns
 returns c =
     let s = c.requires in
-    by_source _ s.0 _ s.1 s.2 s.3 s.4 _ _ _ c.args.frame.now c.args.spill.now refl (test c.args.fuse c.fuses.result c.fuses.ensures ∙ c.if-fuse-fuses.false) c.if-layout-level.false c.reduce_separate.ensures
+    let t = c.args.later in
+    by_source _ s.0 _ s.1 t.at.there t.above t.at.lies _ _ _ c.args.frame.now c.args.spill.now refl (test c.args.fuse c.fuses.result c.fuses.ensures ∙ c.if-fuse-fuses.false) c.if-layout-later.false c.reduce_separate.ensures

@@ -1,35 +1,53 @@
-use mathlib.Core.Path.{ap, ◌∙◌}
-use Prim.Native.Nat.{ℕ, ◌+◌, ◌-◌, ◌<◌}
+use mathlib.Core.Path.{ap, ap₂, ◌∙◌}
+use mathlib.Core.List.{◌++◌}
+use Prim.Native.Nat.{ℕ, ◌+◌, ◌-◌}
 use native.Mathlib.Omega.{arith}
 use lib.ListN.{length}
 use Rattle.settings.specs.declared.super_opts.Naturals.{Naturals}
-use Rattle.settings.specs.Limits.{most_levels}
-use mathlib.Core.List.{◌++◌}
+use Rattle.layouts.specs.declared.fitting.Fitting.{Fitting}
 use Rattle.layouts.specs.Storing.{steps}
 use Rattle.layouts.specs.Layout.{levels_of}
-use Rattle.layouts.specs.Descent.{reached}
 use Rattle.layouts.proofs.Loops.{walked_whole}
-use Rattle.layouts.proofs.Layouts.{allowed, levels_le}
+use Rattle.layouts.proofs.Layouts.{turn, above_at}
 use Rattle.builder.proofs.Runs.{passed_none, passed_next}
 use Rattle.planes.specs.Build.{level_by, halved_by}
 use Rattle.planes.proofs.later.reduce_each.Goals as goal
 
 pub loop-level-init : goal.loop-level-init
-loop-level-init c = (omega arith, passed_none, c.top-above.ensures)
+loop-level-init c = (omega arith, passed_none, c.top-above.ensures.0, c.top-above.ensures.1)
 
 pub next-at-requires : goal.next-at-requires
 next-at-requires c =
-    let inside : (c.loop-level.level < levels_of c.args.layout) × (c.loop-level.level < most_levels) = let n = ap (λ (x : Naturals). x.levels) c.naturals-levels.ensures in
-    let lt : c.loop-level.level < levels_of c.args.layout = omega (arith, n, c.loop-level-test.true) in
-    (lt, omega (arith, levels_le c.args.layout (allowed c.args.layout c.requires.layout))) in
-    (c.requires.layout, omega (arith, inside), c.loop-level.invariant.2)
+    let q = c.args.fitting in
+    omega (arith, turn q.layout c.loop-level.level q.fits c.naturals-levels.ensures c.loop-level-test.true, c.loop-level.invariant)
+
+pub here-requires : goal.here-requires
+here-requires c =
+    let q = c.args.fitting in
+    let l = c.loop-level in
+    omega (arith, turn q.layout l.level q.fits c.naturals-levels.ensures c.loop-level-test.true, l.invariant.0, l.invariant.3, c.next-at.ensures.1, ap (λ (x : Fitting). levels_of x.layout) (c.next-at.ensures.0 ∙ l.invariant.2))
+
+pub invariant_of-later : goal.invariant_of-later
+invariant_of-later c = record { above = above_at c.loop-level.above c.next-at.result c.here.result c.next-at.ensures.0 c.next-at.ensures.1 c.here.ensures.0 c.here.ensures.1 }
+
+pub reduce-requires : goal.reduce-requires
+reduce-requires c =
+    let l = c.loop-level in
+    rw (c.here.ensures.0, c.next-at.ensures.0, l.invariant.2, l.auto.frame, l.auto.spill, l.auto.scratch) (c.requires, omega (arith, c.next-at.ensures.1, c.here.ensures.1))
 
 pub loop-level-preserved : goal.loop-level-preserved
 loop-level-preserved c =
     let a = c.args in
     let l = c.loop-level in
     let r = c.reduce in
-    (omega arith, passed_next (level_by a.fuse a.layout a.src.now a.src_pitch (length a.frame.now) a.filter) l.invariant.0 l.invariant.1 c.loop-level-test.true r.auto.frame r.auto.spill r.auto.scratch (r.ensures ∙ ap (λ (k : ℕ). level_by a.fuse a.layout a.src.now a.src_pitch k a.filter l.level (l.frame ++ l.spill)) l.invariant.1.frame), c.next-at.ensures ∙ ap (reached a.layout) (omega (arith, l.invariant.0)))
+    let same = c.next-at.ensures.0 ∙ l.invariant.2 in
+    (
+      omega arith,
+      passed_next (level_by a.fuse a.fitting.layout a.src.now a.src_pitch (length a.frame.now) a.filter) l.invariant.0 l.invariant.1 c.loop-level-test.true r.auto.frame r.auto.spill r.auto.scratch
+      (r.ensures ∙ ap₂ (λ (x : Fitting) (n : ℕ). level_by a.fuse x.layout a.src.now a.src_pitch (length l.frame) a.filter n (l.frame ++ l.spill)) (c.here.ensures.0 ∙ same) (omega (arith, l.invariant.0, l.invariant.3, c.next-at.ensures.1, c.here.ensures.1)) ∙ ap (λ (k : ℕ). level_by a.fuse a.fitting.layout a.src.now a.src_pitch k a.filter l.level (l.frame ++ l.spill)) l.invariant.1.frame),
+      same,
+      omega (arith, l.invariant.0, l.invariant.3, c.next-at.ensures.1),
+    )
 
 pub returns : goal.returns
 unfolding halved_by
@@ -37,4 +55,4 @@ returns c =
     let a = c.args in
     let n = ap (λ (x : Naturals). x.levels) c.naturals-levels.ensures in
     walked_whole c.loop-level.invariant.1.walk (omega (arith, c.loop-level-test.false))
-    ∙ ap (λ (k : ℕ). steps (λ i. level_by a.fuse a.layout a.src.now a.src_pitch (length a.frame.now) a.filter (i + 1)) (k - 1) (a.frame.now ++ a.spill.now)) n
+    ∙ ap (λ (k : ℕ). steps (λ i. level_by a.fuse a.fitting.layout a.src.now a.src_pitch (length a.frame.now) a.filter (i + 1)) (k - 1) (a.frame.now ++ a.spill.now)) n

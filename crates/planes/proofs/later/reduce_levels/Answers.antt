@@ -15,7 +15,7 @@ use Rattle.planes.proofs.later.reduce_levels.Goals as goal
 pub returns-in_default : goal.returns-in_default
 unfolding halved_by
 returns-in_default c =
-    let down : SFits w32 c.args.layout.opts.scale_down = search rules in
+    let down : SFits w32 c.args.fitting.layout.opts.scale_down = search rules in
     let a = c.args in
     let none = sym (c.from_option.ensures ∙ ap chosen (to_z-of_z (down))) ∙ c.in_default.is in
-    sym (ap (λ (k : Option ReduceFilter). halved_by a.fuse a.layout a.src.now a.src_pitch (length a.frame.now) k (a.frame.now ++ a.spill.now)) none)
+    sym (ap (λ (k : Option ReduceFilter). halved_by a.fuse a.fitting.layout a.src.now a.src_pitch (length a.frame.now) k (a.frame.now ++ a.spill.now)) none)

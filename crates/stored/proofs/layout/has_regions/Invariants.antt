@@ -1,13 +1,12 @@
--- `has_regions` meets its contract. The levels passed are as making gives them, and the walk carries what is reached there. Assumes nothing.
+-- `has_regions` meets its contract. The levels passed are as making gives them, and the walk is at its level. Assumes nothing.
 use mathlib.Core.Path.{◌≡◌}
 use mathlib.Core.Bool.{true}
 use Prim.Native.Nat.{ℕ, ◌-◌, ◌≤◌, ◌<◌}
-use Rattle.layouts.specs.Descent.{reached}
 use Rattle.stored.specs.Inner.{same_at}
 use Rattle.stored.proofs.layout.has_regions.Given as goal
 
 abbrev pub invariant-loop-level : goal.invariant-loop-level
-invariant-loop-level l = (l.at ≡ reached l.layout l.level) × (l.level ≤ l.levels) × ((j : ℕ) → j < l.level → same_at l.layout l.numbers j ≡ true)
+invariant-loop-level l = (l.at.layout.layout ≡ l.layout) × (l.at.level ≡ l.level) × (l.level ≤ l.levels) × ((j : ℕ) → j < l.level → same_at l.layout l.numbers j ≡ true)
 
 abbrev pub decreases-loop-level : goal.decreases-loop-level
 decreases-loop-level l = l.levels - l.level

@@ -41,7 +41,15 @@ has_regions-requires c =
     let long : length c.args.numbers.now ≡ most_numbers = (shaped c.args.numbers.now (shape)).long in
     let pitch : bad_pitch (view_of c.args.opts c.args.numbers.now).pitch (least_pitch (view_of c.args.opts c.args.numbers.now)) ≡ c.bad_pitch.result = ap (λ (q : Layout). bad_pitch q.pitch (least_pitch q)) (sym c.view-layout.ensures) ∙ ap (bad_pitch c.view-layout.result.pitch) (sym c.least_pitch.ensures) ∙ sym c.bad_pitch.ensures in
     let none : layout_no (view_of c.args.opts c.args.numbers.now) ≡ 0 = let s = c in rw (layout_by_pitch s.args.opts s.args.numbers.now s.requires (shape), pitch ∙ c.if-bad_pitch.false) refl in
-    (ap layout_no c.view-layout.ensures ∙ none, long)
+    long
+
+pub invariant_of-has_regions : goal.invariant_of-has_regions
+invariant_of-has_regions c =
+    let shape : has_view c.args.numbers.now ≡ true = sym c.has_view.ensures ∙ not-false c.has_view.result c.if-not-has_view.false-raw in
+    let long : length c.args.numbers.now ≡ most_numbers = (shaped c.args.numbers.now (shape)).long in
+    let pitch : bad_pitch (view_of c.args.opts c.args.numbers.now).pitch (least_pitch (view_of c.args.opts c.args.numbers.now)) ≡ c.bad_pitch.result = ap (λ (q : Layout). bad_pitch q.pitch (least_pitch q)) (sym c.view-layout.ensures) ∙ ap (bad_pitch c.view-layout.result.pitch) (sym c.least_pitch.ensures) ∙ sym c.bad_pitch.ensures in
+    let none : layout_no (view_of c.args.opts c.args.numbers.now) ≡ 0 = let s = c in rw (layout_by_pitch s.args.opts s.args.numbers.now s.requires (shape), pitch ∙ c.if-bad_pitch.false) refl in
+    record { fits = ap layout_no c.view-layout.ensures ∙ none }
 
 pub returns : goal.returns
 unfolding is_stored keeps

@@ -1,11 +1,10 @@
--- `down` meets its contract. The loop carries what is reached at its level. Assumes nothing.
+-- `down` meets its contract. Assumes nothing.
 use mathlib.Core.Path.{◌≡◌}
 use Prim.Native.Nat.{◌-◌, ◌≤◌}
-use Rattle.layouts.specs.Descent.{reached}
 use Rattle.layouts.proofs.descent.Descent.down.Given as goal
 
-abbrev pub invariant-loop-level : goal.invariant-loop-level
-invariant-loop-level l = (l.at ≡ reached l.layout l.level) × (l.level ≤ l.to)
+abbrev pub invariant-loop-at : goal.invariant-loop-at
+invariant-loop-at l = (l.at.layout ≡ l.fn.self.layout) × (l.at.level ≤ l.to)
 
-abbrev pub decreases-loop-level : goal.decreases-loop-level
-decreases-loop-level l = l.to - l.level
+abbrev pub decreases-loop-at : goal.decreases-loop-at
+decreases-loop-at l = l.to - l.at.level
