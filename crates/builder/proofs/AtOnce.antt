@@ -3,7 +3,7 @@
 use mathlib.Core.Path.{◌≡◌, refl, sym, ap, ◌∙◌, subst}
 use mathlib.Core.List.{List}
 use mathlib.Core.Logic.{inl}
-use Prim.Native.Nat.{ℕ, zero, suc, ◌+◌, ◌*◌, ◌/◌, ◌≤◌, ◌<◌}
+use Prim.Native.Nat.{ℕ, zero, suc, ◌+◌, ◌*◌, ◌/◌, ◌%◌, ◌≤◌, ◌<◌}
 use native.Mathlib.Nat.{add-mul, zero-mul, one-mul}
 use native.Mathlib.Numerals.{add-one}
 use native.Mathlib.Omega.{arith}
@@ -180,10 +180,10 @@ module _ {i : Interp} (T : Tight i) where
 
 -- ---- the planes by their numbers
 -- what is tested: the chunks of a row, and the places of a plane
-pub tight_tested : {i : Interp} {n s : ℕ} → n ≡ chunked i.width → n ≡ i.pitch → s ≡ plane_at i 1 → s / 64 * 64 ≡ s → i.pitch + 64 < s → Tight i
+pub tight_tested : {i : Interp} {n s : ℕ} → n ≡ chunked i.width → n ≡ i.pitch → s ≡ plane_at i 1 → s % 64 ≡ 0 → i.pitch + 64 < s → Tight i
 tight_tested {i} {n} {s} is rows one blocks near =
     let e : s ≡ i.height * i.pitch = one ∙ one-mul (i.height * i.pitch) in
-    record { rows = sym is ∙ rows; blocks = subst (λ (k : ℕ). k / 64 * 64 ≡ k) e blocks; near = omega (arith, e) }
+    record { rows = sym is ∙ rows; blocks = subst (λ (k : ℕ). k / 64 * 64 ≡ k) e (omega (arith, blocks)); near = omega (arith, e) }
 
 pub three_planes : {len scratch : ℕ} {i : Interp} {a b d : ℕ} (A B D : ℕ) → A ≡ plane_at i a → B ≡ plane_at i b → D ≡ plane_at i d → Halves a b d → Planes (d + 1) len scratch i → Three len i A B D
 three_planes {i = i} {a = a} {b = b} {d = d} A B D ea eb ed h P =

@@ -110,18 +110,3 @@ halves_within w lt = omega (arith, row_within w lt, w.fits)
 
 pub line_within : {len scratch base p : ℕ} {t : Region} → Within len scratch base p t → 2 * t.width + 2 ≤ scratch
 line_within w = omega (arith, w.fits, w.room)
-
-pub line_taken : {len base p : ℕ} {t : Region} (X : List ℕ) → Within len (length X) base p t → length (take (2 * t.width) X) ≡ 2 * t.width
-line_taken {t = t} X w = length-take-le (2 * t.width) X (omega (arith, line_within w))
-
--- the slices keep their lengths
-pub within_kept : {len scratch len' scratch' base p : ℕ} {t : Region} → len' ≡ len → scratch' ≡ scratch → Within len scratch base p t → Within len' scratch' base p t
-within_kept e f w =
-    record {
-      some = w.some;
-      high = w.high;
-      fits = w.fits;
-      source = w.source;
-      target = omega (arith, w.target);
-      room = omega (arith, w.room);
-    }

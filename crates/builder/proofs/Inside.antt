@@ -9,7 +9,9 @@ use Rattle.filters.specs.declared.half_pel.HalfPel.{HalfPel}
 use Rattle.layouts.specs.declared.layout.Region.{Region}
 use Rattle.layouts.specs.Storing.{put}
 use Rattle.builder.specs.declared.refining.Interp.{Interp}
-use Rattle.builder.specs.Canvas.{fetch, copy_run}
+use Rattle.std.specs.Borrow.{MutBor}
+use Rattle.builder.specs.declared.canvas.Canvas.{Canvas}
+use Rattle.builder.specs.Canvas.{fetch, copy_run, Staged}
 use Rattle.builder.specs.Halving.{from_stored, fused}
 use Rattle.builder.specs.Refining.{pair_run, mean_planes, kernel_planes}
 use Rattle.builder.specs.Room.{Within, Planes, Halves, Tight}
@@ -68,3 +70,8 @@ kernel_inside k len scratch i a b d h P = inside_by (λ S. kernel_placed same_by
 
 pub tight_inside : (len scratch : ℕ) (i : Interp) (a b d : ℕ) → Tight i → Halves a b d → Planes (d + 1) len scratch i → Inside len (mean_planes i a b d)
 tight_inside len scratch i a b d T h P = inside_by (λ S. tight_placed same_bytes (beside_allows len S) T a b d h P)
+
+-- ---- a stage that was made in the frame of a canvas
+pub staged_inside : {stage : List ℕ → List ℕ} (c : Canvas) {f : MutBor (List ℕ)} → Inside (length c.frame.now) stage → f.now ≡ stage c.frame.now → length f.now ≡ length c.frame.now → f.ghost_name ≡ c.frame.ghost_name → Staged stage c (record { frame = f; spill = c.spill })
+staged_inside c inside e long name =
+    record { bytes = ap (λ (x : List ℕ). x ++ c.spill.now) e ∙ inside.aside c.frame.now c.spill.now refl; frame_long = long; spill_long = refl; frame_name = name; spill_name = refl }

@@ -36,16 +36,6 @@ last_near Bilinear sp = (omega arith, omega arith)
 last_near Quadratic sp = (omega arith, omega arith)
 last_near Cubic sp = (omega arith, omega arith)
 
-pub first_reach : (f : ReduceFilter) {first : ℕ} (sp : ℕ) → first ≡ first_row f → first * sp ≤ 2 * sp
-first_reach f sp e = rw e (first_near f sp)
-
--- sp, the second row and the last
-pub last_reach : (f : ReduceFilter) {last : ℕ} (sp : ℕ) → last ≡ last_row f → (sp ≤ last_row f * sp) × (last * sp ≡ last_row f * sp)
-last_reach f sp e = ((last_near f sp).0, rw e)
-
-pub second_reach : (f : ReduceFilter) {second last : ℕ} (sp : ℕ) → second ≡ min last 2 → last ≡ last_row f → second * sp ≤ last_row f * sp
-second_reach f sp e g = rw (e, g) (last_near f sp).1
-
 first_is : (f : ReduceFilter) → 2 ≤ first_row f → first_row f ≡ 2
 first_is Average le = absurd (omega arith)
 first_is Bilinear le = absurd (omega arith)

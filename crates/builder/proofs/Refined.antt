@@ -89,9 +89,6 @@ pair_laid c t l r n =
     (λ i lt. ap (λ (x : ℕ). mean_of x (get_or c (r + i) 0)) (sym (fetch_at c l n i lt)) ∙ ap (mean_of (get_or (fetch c l n) i 0)) (sym (fetch_at c r n i lt))))
 
 -- ---- one row of a pair
-pub before_or_after : (s t e : ℕ) → (leb e t || leb t s) ≡ true → (e ≤ t) ⊎ (t ≤ s)
-before_or_after s t e h = ⊎_elim (λ (a : leb e t ≡ true). inl (leb-true e t a)) (λ (b : leb t s ≡ true). inr (leb-true t s b)) (or_cases (leb e t) (leb t s) h)
-
 -- both rows laid at the start of x, and the means after them
 pub pair_apart : (c x : List ℕ) (l r n : ℕ) → fetch (pair_run (2 * n) 0 n n (put (put x 0 (fetch c l n)) n (fetch c r n))) (2 * n) n ≡ means_of n (fetch c l n) (fetch c r n)
 unfolding pair_run
@@ -191,10 +188,6 @@ pub planes_at : {pel m len scratch : ℕ} {i : Interp} → pel ≡ m → Planes 
 planes_at {pel} {m} {len} {scratch} {i} e P = subst (λ (k : ℕ). Planes (k * k) len scratch i) e P
 
 -- ---- the stages one after the other
-pub mean_stages : (i : Interp) (a b d A : ℕ) → A ≡ plane_at i a → (c c1 c2 c3 : List ℕ) → c1 ≡ pair_plane i A 0 1 c → c2 ≡ copy_run 0 (plane_at i b) i.width (pair_plane i (plane_at i b) 0 i.pitch c1) → c3 ≡ copy_run 1 (plane_at i d) i.width (pair_plane i (plane_at i d) 0 (i.pitch + 1) c2) → c3 ≡ mean_planes i a b d c
-unfolding mean_planes
-mean_stages i a b d A ea c c1 c2 c3 e1 e2 e3 = rw (e3, e2, e1, ea)
-
 pub kernel_stages : (k : HalfPel) (i : Interp) (a b d A B D : ℕ) → A ≡ plane_at i a → B ≡ plane_at i b → D ≡ plane_at i d → (c c1 c2 c3 : List ℕ) → c1 ≡ horizontal_plane k i A 0 c → c2 ≡ vertical_plane k i B 0 c1 → c3 ≡ horizontal_plane k i D B c2 → c3 ≡ kernel_planes k i a b d c
 unfolding kernel_planes
 kernel_stages k i a b d A B D ea eb ed c c1 c2 c3 e1 e2 e3 = rw (e3, e2, e1, ea, eb, ed)

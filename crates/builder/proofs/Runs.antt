@@ -1,5 +1,5 @@
--- Laws of the canvas: what is read of two lists one after the other, and what is stored in them; last loops over frame, spill and scratch. Assumes nothing.
-use mathlib.Core.Path.{◌≡◌, refl, sym, ap, ◌∙◌}
+-- Laws of the canvas: what is read of two lists one after the other, and what is stored in them; last stages of a canvas, and loops over one. Assumes nothing.
+use mathlib.Core.Path.{◌≡◌, refl, sym, ap, ◌∙◌, subst}
 use mathlib.Core.List.{List, [], ◌++◌, append_assoc, append-nil}
 use mathlib.Core.Logic.{⊎_elim}
 use Prim.Native.Nat.{ℕ, ◌+◌, ◌-◌, ◌≤◌, ◌<◌, max}
@@ -8,9 +8,10 @@ use lib.ListN.{length, get_or, take, drop, replicate, length-append, length-take
 use lib.Seq.{take_at, drop_at, take_all, get_or-take, get_or-drop, get_or-append-add, length-take-le, take-append-le, drop-append-le, take-append-add, drop-append-add}
 use Rattle.filters.proofs.Tests.{below_or}
 use Rattle.filters.proofs.Tables.{tab_length, tab_at, is_tab}
-use Rattle.layouts.specs.Storing.{put}
-use Rattle.layouts.proofs.Loops.{put_plain, put_lent, Walked, walked_none, walked_more, walked_next}
-use Rattle.builder.specs.Canvas.{fetch}
+use Rattle.layouts.specs.Storing.{put, steps}
+use Rattle.layouts.proofs.Loops.{put_plain, put_lent, steps_next}
+use Rattle.builder.specs.declared.canvas.Canvas.{Canvas}
+use Rattle.builder.specs.Canvas.{fetch, bytes_of, Staged}
 
 second_at : (a b : List ℕ) (i k : ℕ) → i ≡ length a + k → get_or (a ++ b) i 0 ≡ get_or b k 0
 second_at a b i k e = ap (λ (j : ℕ). get_or (a ++ b) j 0) e ∙ get_or-append-add a b k 0
@@ -249,37 +250,44 @@ store_cut F S ys l m at low long e f =
     ∙ ap (λ (x : List ℕ). put F at (take k ys) ++ x) (f ∙ ap (put S 0) (take_all (length ys - k) (drop k ys) (omega (arith, length-drop k ys))))
     ∙ put_over F S ys at k (omega arith) long
 
--- ---- rows
--- two lists that kept their lengths
-pub both_lengths : (F S G T : List ℕ) → length F ≡ length G → length S ≡ length T → length (F ++ S) ≡ length (G ++ T)
-both_lengths F S G T e f = length-append F S ∙ omega (arith, length-append G T)
+-- ---- stages of a canvas
+pub staged_none : {c : Canvas} → Staged (λ d. d) c c
+staged_none = record { bytes = refl; frame_long = refl; spill_long = refl; frame_name = refl; spill_name = refl }
 
--- what a loop over rows, planes or levels knows at its head, of frame, spill and scratch
-pub record Passed (step : ℕ → List ℕ → List ℕ) (F₀ S₀ X₀ F S X : List ℕ) (h y : ℕ) : Type 0 where
-  pub walk : Walked step (F₀ ++ S₀) (F ++ S) h y
-  pub frame : length F ≡ length F₀
-  pub spill : length S ≡ length S₀
+pub staged_then : {f g : List ℕ → List ℕ} {c d e : Canvas} → Staged f c d → Staged g d e → Staged (λ x. g (f x)) c e
+staged_then {f} {g} s t =
+    record {
+      bytes = t.bytes ∙ ap g s.bytes;
+      frame_long = t.frame_long ∙ s.frame_long;
+      spill_long = t.spill_long ∙ s.spill_long;
+      frame_name = t.frame_name ∙ s.frame_name;
+      spill_name = t.spill_name ∙ s.spill_name;
+    }
+
+-- the same stage, otherwise written
+pub staged_as : {f g : List ℕ → List ℕ} {c d : Canvas} → Staged f c d → f (bytes_of c) ≡ g (bytes_of c) → Staged g c d
+staged_as s e = record { bytes = s.bytes ∙ e; frame_long = s.frame_long; spill_long = s.spill_long; frame_name = s.frame_name; spill_name = s.spill_name }
+
+-- what a loop over rows, planes or levels knows at its head, of canvas and scratch
+pub record Passed (step : ℕ → List ℕ → List ℕ) (c₀ : Canvas) (X₀ : List ℕ) (c : Canvas) (X : List ℕ) (h y : ℕ) : Type 0 where
+  pub most : y ≤ h
+  pub staged : Staged (steps step y) c₀ c
   pub scratch : length X ≡ length X₀
 
-pub passed_none : {step : ℕ → List ℕ → List ℕ} {F S X : List ℕ} {h : ℕ} → Passed step F S X F S X h 0
-passed_none = record { walk = walked_none; frame = refl; spill = refl; scratch = refl }
+pub passed_none : {step : ℕ → List ℕ → List ℕ} {c : Canvas} {X : List ℕ} {h : ℕ} → Passed step c X c X h 0
+unfolding steps
+passed_none = record { most = omega arith; staged = staged_none; scratch = refl }
 
-module _ {F₀ S₀ X₀ F S X F' S' X' : List ℕ} {h y : ℕ} where
-  pub passed_more : {step : ℕ → List ℕ → List ℕ} → Passed step F₀ S₀ X₀ F S X h y → y < h → length F' ≡ length F → length S' ≡ length S → length X' ≡ length X → F' ++ S' ≡ step y (F ++ S) → Passed step F₀ S₀ X₀ F' S' X' h (y + 1)
-  passed_more w lt ef es ex e =
-      record {
-        walk = walked_more w.walk lt (both_lengths F' S' F S ef es) e;
-        frame = ef ∙ w.frame;
-        spill = es ∙ w.spill;
-        scratch = ex ∙ w.scratch;
-      }
+pub passed_more : {step : ℕ → List ℕ → List ℕ} {c₀ c c' : Canvas} {X₀ X X' : List ℕ} {h y : ℕ} → Passed step c₀ X₀ c X h y → y < h → length X' ≡ length X → Staged (step y) c c' → Passed step c₀ X₀ c' X' h (y + 1)
+passed_more {step} {c₀} {y = y} w lt ex s =
+    record { most = omega arith; staged = staged_as (staged_then w.staged s) (sym (steps_next step y (bytes_of c₀))); scratch = ex ∙ w.scratch }
 
-  -- a loop that counts from 1
-  pub passed_next : (step : ℕ → List ℕ → List ℕ) → 1 ≤ y → Passed (λ i. step (i + 1)) F₀ S₀ X₀ F S X (h - 1) (y - 1) → y < h → length F' ≡ length F → length S' ≡ length S → length X' ≡ length X → F' ++ S' ≡ step y (F ++ S) → Passed (λ i. step (i + 1)) F₀ S₀ X₀ F' S' X' (h - 1) (y + 1 - 1)
-  passed_next step some w lt ef es ex e =
-      record {
-        walk = walked_next step some w.walk lt (both_lengths F' S' F S ef es) e;
-        frame = ef ∙ w.frame;
-        spill = es ∙ w.spill;
-        scratch = ex ∙ w.scratch;
-      }
+-- a loop that counts from 1
+pub passed_next : (step : ℕ → List ℕ → List ℕ) {c₀ c c' : Canvas} {X₀ X X' : List ℕ} {h y : ℕ} → 1 ≤ y → Passed (λ i. step (i + 1)) c₀ X₀ c X (h - 1) (y - 1) → y < h → length X' ≡ length X → Staged (step y) c c' → Passed (λ i. step (i + 1)) c₀ X₀ c' X' (h - 1) (y + 1 - 1)
+passed_next step {c₀} {c} {c'} {X₀} {X} {X'} {h} {y} some w lt ex s =
+    let here : y ≡ y - 1 + 1 = omega arith in
+    let next : y - 1 + 1 ≡ y + 1 - 1 = omega arith in
+    subst (λ (k : ℕ). Passed (λ i. step (i + 1)) c₀ X₀ c' X' (h - 1) k) next (passed_more w (omega arith) ex (subst (λ (k : ℕ). Staged (step k) c c') here s))
+
+pub passed_whole : {step : ℕ → List ℕ → List ℕ} {c₀ c : Canvas} {X₀ X : List ℕ} {h y : ℕ} → Passed step c₀ X₀ c X h y → h ≤ y → Staged (steps step h) c₀ c
+passed_whole {step} {c₀} {c} {h = h} {y = y} w le = let e : y ≡ h = omega arith in subst (λ (k : ℕ). Staged (steps step k) c₀ c) e w.staged

@@ -29,14 +29,6 @@ closed_row t y h p fits lt = omega (arith, row_in y h p lt)
 pub spread_at : {n sp len spill scratch p y : ℕ} {t : Region} → Spread n sp len spill scratch p t → y < t.height → t.offset + y * (2 * p) + 2 * p ≤ len + spill
 spread_at {p = p} {y = y} {t = t} s lt = spread_row t.offset y t.height p s.beyond lt
 
--- the slices keep their lengths
-pub spread_kept : {n sp len spill scratch len' spill' scratch' p : ℕ} {t : Region} → len' ≡ len → spill' ≡ spill → scratch' ≡ scratch → Spread n sp len spill scratch p t → Spread n sp len' spill' scratch' p t
-spread_kept e f g s = rw (e, f, g) s
-
--- scratch X holds a row before it is halved
-pub spread_line : {n sp len spill p : ℕ} {t : Region} (X : List ℕ) → Spread n sp len spill (length X) p t → length (take (2 * t.width) X) ≡ 2 * t.width
-spread_line {t = t} X s = length-take-le (2 * t.width) X (omega (arith, s.fits, s.room))
-
 -- and scratch that came back as X holds it when it is halved
 pub half_line : (w : ℕ) (X : List ℕ) {n : ℕ} → length X ≡ n → 2 * w ≤ n → length (take w X) ≡ w
 half_line w X same fits = length-take-le w X (omega arith)

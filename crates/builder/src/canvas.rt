@@ -2,11 +2,19 @@
 // Reading, a part that is a window on it, and storing. Each run is cut once, where the frame ends, and no byte is tested by itself.
 ghost use Rattle.std.specs.Prelude.{◌≡◌, cond, ◌++◌, ◌+◌, ◌-◌, ◌≤◌, length, replicate, leb};
 ghost use Rattle.layouts.specs.Storing.{put, part_at, part_at_mut};
-ghost use Rattle.builder.specs.Canvas.{fetch};
+ghost use Rattle.builder.specs.Canvas.{fetch, bytes_of, Staged};
 
 use filters::rows::{copy_row, zero_row};
 
+// Contracts see the two slices, and of a stage that it leaves them where they are (`Staged`).
+#[derive(Drop)]
+pub struct Canvas<'a> {
+    pub frame: &'a mut [u8],
+    pub spill: &'a mut [u8],
+}
+
 // The n bytes of c from start, which lie in it.
+#[tactic(auto, using(crate::proofs::Runs::fetch_part, crate::proofs::Runs::fetch_length))]
 pub fn span(c: &[u8], start: usize, n: usize) -> &[u8]
     requires { start + n ≤ length c.now }
     ensures { (result.now ≡ fetch c.now start n) × (length result.now ≡ n) × (result.ref_ptr ≡ part_at c.entry start) }
@@ -15,6 +23,7 @@ pub fn span(c: &[u8], start: usize, n: usize) -> &[u8]
 }
 
 // The bytes of c from start on, zeros past its end.
+#[tactic(auto, using(crate::proofs::Runs::fetch_past, crate::proofs::Runs::copy_whole, crate::proofs::Runs::read_cut))]
 fn read(out: &mut [u8], c: &[u8], start: usize)
     ensures { out.new ≡ fetch c.now start (length out.old) }
 {
@@ -32,7 +41,8 @@ fn read(out: &mut [u8], c: &[u8], start: usize)
     zero_row(&mut out[k..]);
 }
 
-pub(crate) fn fetch(out: &mut [u8], frame: &[u8], spill: &[u8], start: usize)
+#[tactic(auto, using(crate::proofs::Runs::fetch_left, crate::proofs::Runs::fetch_right, crate::proofs::Runs::copy_whole, crate::proofs::Runs::fetch_cut))]
+fn fetch(out: &mut [u8], frame: &[u8], spill: &[u8], start: usize)
     ensures { out.new ≡ fetch (frame.now ++ spill.now) start (length out.old) }
 {
     let len = frame.len();
@@ -66,6 +76,7 @@ fn fetched<'a>(
 }
 
 // n bytes of the canvas: a part of the frame where they lie in it, else a part of scratch.
+#[tactic(auto, using(crate::proofs::Runs::fetch_left))]
 pub(crate) fn window<'a>(
     frame: &'a [u8],
     spill: &'a [u8],
@@ -87,6 +98,7 @@ pub(crate) fn window<'a>(
 }
 
 // For a row that lies in c whole; `store` is for one that may leave the frame.
+#[tactic(auto, using(crate::proofs::Runs::put_part))]
 pub fn put(c: &mut [u8], start: usize, row: &[u8])
     requires { start + length row.now ≤ length c.old }
     ensures { c.new ≡ put c.old start row.now }
@@ -95,6 +107,7 @@ pub fn put(c: &mut [u8], start: usize, row: &[u8])
     copy_row(&mut c[start..end], row);
 }
 
+#[tactic(auto, using(layouts::proofs::Loops::put_zeros))]
 pub(crate) fn zero_run(c: &mut [u8], start: usize, end: usize)
     requires { (start ≤ end) × (end ≤ length c.old) }
     ensures { c.new ≡ put c.old start (replicate (end - start) 0) }
@@ -102,21 +115,29 @@ pub(crate) fn zero_run(c: &mut [u8], start: usize, end: usize)
     zero_row(&mut c[start..end]);
 }
 
-// What lies past the frame goes to the spill.
-pub(crate) fn store(frame: &mut [u8], spill: &mut [u8], start: usize, row: &[u8])
-    requires { start + length row.now ≤ length frame.old + length spill.old }
-    ensures { frame.new ++ spill.new ≡ put (frame.old ++ spill.old) start row.now }
-{
-    let len = frame.len();
-    if len <= start {
-        put(spill, start - len, row);
-        return;
+impl Canvas<'_> {
+    pub(crate) fn fetch(&self, out: &mut [u8], start: usize)
+        ensures { out.new ≡ fetch (bytes_of self.now) start (length out.old) }
+    {
+        fetch(out, self.frame, self.spill, start);
     }
-    let k = len - start;
-    if row.len() <= k {
-        put(frame, start, row);
-        return;
+
+    // What lies past the frame goes to the spill.
+    pub(crate) fn store(&mut self, start: usize, row: &[u8])
+        requires { start + length row.now ≤ length self.old.frame.now + length self.old.spill.now }
+        ensures { Staged (λ c. put c start row.now) self.old self.new }
+    {
+        let len = self.frame.len();
+        if len <= start {
+            put(self.spill, start - len, row);
+            return;
+        }
+        let k = len - start;
+        if row.len() <= k {
+            put(self.frame, start, row);
+            return;
+        }
+        put(self.frame, start, &row[..k]);
+        put(self.spill, 0, &row[k..]);
     }
-    put(frame, start, &row[..k]);
-    put(spill, 0, &row[k..]);
 }

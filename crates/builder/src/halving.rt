@@ -29,6 +29,7 @@ fn vertical_row(
 }
 
 // The row at `at` of the frame, halved in its own place.
+#[tactic(auto, using(crate::proofs::Halves::halve_lent))]
 fn halve_row(filter: ReduceFilter, frame: &mut [u8], scratch: &mut [u8], at: usize, w: usize)
     requires { (1 ≤ w) × (at + 2 * w ≤ length frame.old) × (2 * w + 2 ≤ length scratch.old) }
     ensures { frame.new ≡ halve_run filter w at frame.old }
@@ -53,6 +54,7 @@ fn finish_row(
     zero_run(frame, at + 2 * w, end);
 }
 
+#[tactic(auto, using(layouts::proofs::Loops::walked_whole), unfolding(crate::specs::Halving::vertical_rows))]
 fn vertical_rows(
     filter: ReduceFilter,
     frame: &mut [u8],
@@ -70,6 +72,7 @@ fn vertical_rows(
     }
 }
 
+#[tactic(auto, using(layouts::proofs::Loops::walked_whole), unfolding(crate::specs::Halving::horizontal_rows))]
 fn horizontal_rows(
     filter: ReduceFilter,
     frame: &mut [u8],
@@ -88,6 +91,7 @@ fn horizontal_rows(
     }
 }
 
+#[tactic(auto, unfolding(crate::specs::Halving::from_stored))]
 pub fn reduce_within(
     filter: ReduceFilter,
     frame: &mut [u8],
@@ -126,6 +130,7 @@ fn fused_row(
     );
 }
 
+#[tactic(auto, using(layouts::proofs::Loops::walked_whole), unfolding(crate::specs::Halving::fused))]
 pub fn reduce_cubic(frame: &mut [u8], scratch: &mut [u8], base: usize, pitch: usize, target: Region)
     requires { Within (length frame.old) (length scratch.old) base pitch target × (whole_of Cubic (2 * target.width) ≡ 2 * target.width) }
     ensures { frame.new ≡ fused base pitch target frame.old }

@@ -1,15 +1,15 @@
 // The planes of level 0 between its places: open-svpflow's `refine` and `Interp`.
 // First the means of two rows; then a block of the three planes at half places; then a plane from one or two others; then the planes at half places, at once or in turn; then the table of the pairs between those; last the whole.
-ghost use Rattle.std.specs.Prelude.{◌≡◌, ◌++◌, ◌⊎◌, ◌+◌, ◌*◌, ◌-◌, ◌≤◌, ◌<◌, length};
+ghost use Rattle.std.specs.Prelude.{◌≡◌, ◌⊎◌, ◌+◌, ◌*◌, ◌-◌, ◌≤◌, ◌<◌, length};
 ghost use Rattle.settings.specs.Limits.{most_side, most_pitch};
 ghost use Rattle.filters.specs.Row.{means_of};
 ghost use Rattle.filters.specs.Refine.{half_horizontal};
 ghost use Rattle.layouts.specs.Storing.{put};
-ghost use Rattle.builder.specs.Canvas.{fetch, copy_run, ◌▷◌};
+ghost use Rattle.builder.specs.Canvas.{fetch, copy_run, ◌▷◌, bytes_of, Staged};
 ghost use Rattle.builder.specs.Refining.{chunked, pair_run, pair_plane, horizontal_plane, vertical_run, vertical_plane, plane_at, mean_planes, kernel_planes, half_planes, pairs, quarter, fold_pairs, refine};
 ghost use Rattle.builder.specs.Room.{PairRow, PairPlane, OnePlane, Planes, FirstRow, Halves, Tight, Three, Quarter};
 
-use crate::canvas::{fetch, put, span, store};
+use crate::canvas::{Canvas, put, span};
 use filters::half_pel::{HalfPel, Upscale};
 use filters::rows::{copy_row, mean, mean_row};
 
@@ -31,6 +31,27 @@ pub struct Pair {
     pub below: usize,
 }
 
+// The planes at half places, by their numbers.
+#[derive(Clone, Copy)]
+struct HalfPlanes {
+    horizontal: usize,
+    vertical: usize,
+    diagonal: usize,
+    ghost ordered: { Halves horizontal vertical diagonal },
+}
+
+const AT_PEL_2: HalfPlanes = HalfPlanes {
+    horizontal: 1,
+    vertical: 2,
+    diagonal: 3,
+};
+
+const AT_PEL_4: HalfPlanes = HalfPlanes {
+    horizontal: 2,
+    vertical: 8,
+    diagonal: 10,
+};
+
 // By index in the one slice. The left row ends before the target, and the right one does or doesn't begin before it: no byte is laid over before it is read.
 fn pair_inside(frame: &mut [u8], t: usize, l: usize, r: usize, n: usize)
     requires { (l + n ≤ t) × ((r + n ≤ t) ⊎ (t ≤ r)) × (r + n ≤ length frame.old) × (t + n ≤ length frame.old) }
@@ -42,55 +63,36 @@ fn pair_inside(frame: &mut [u8], t: usize, l: usize, r: usize, n: usize)
 }
 
 // n bytes of the canvas, laid into scratch.
-fn fetch_into(scratch: &mut [u8], at: usize, n: usize, frame: &[u8], spill: &[u8], start: usize)
+#[tactic(auto, using(layouts::proofs::Loops::put_lent, crate::proofs::Runs::fetch_length))]
+fn fetch_into(scratch: &mut [u8], at: usize, n: usize, canvas: &Canvas, start: usize)
     requires { at + n ≤ length scratch.old }
-    ensures { scratch.new ≡ put scratch.old at (fetch (frame.now ++ spill.now) start n) }
+    ensures { scratch.new ≡ put scratch.old at (fetch (bytes_of canvas.now) start n) }
 {
-    fetch(&mut scratch[at..at + n], frame, spill, start);
+    canvas.fetch(&mut scratch[at..at + n], start);
 }
 
 // Through scratch: rows that reach over the target, or leave the frame.
-fn pair_apart(
-    frame: &mut [u8],
-    spill: &mut [u8],
-    scratch: &mut [u8],
-    t: usize,
-    l: usize,
-    r: usize,
-    n: usize,
-)
-    requires { PairRow (length frame.old) (length spill.old) (length scratch.old) t l r n }
-    ensures { frame.new ++ spill.new ≡ pair_run t l r n (frame.old ++ spill.old) }
+#[tactic(auto, using(crate::proofs::Refined::pair_apart), unfolding(crate::specs::Refining::pair_run))]
+fn pair_apart(canvas: &mut Canvas, scratch: &mut [u8], t: usize, l: usize, r: usize, n: usize)
+    requires { PairRow (length canvas.old.frame.now) (length canvas.old.spill.now) (length scratch.old) t l r n }
+    ensures { Staged (pair_run t l r n) canvas.old canvas.new }
 {
-    fetch_into(scratch, 0, n, frame, spill, l);
-    fetch_into(scratch, n, n, frame, spill, r);
+    fetch_into(scratch, 0, n, canvas, l);
+    fetch_into(scratch, n, n, canvas, r);
     pair_inside(scratch, 2 * n, 0, n, n);
-    store(frame, spill, t, span(scratch, 2 * n, n));
+    canvas.store(t, span(scratch, 2 * n, n));
 }
 
-fn pair_row(
-    frame: &mut [u8],
-    spill: &mut [u8],
-    scratch: &mut [u8],
-    t: usize,
-    l: usize,
-    r: usize,
-    n: usize,
-)
-    requires { PairRow (length frame.old) (length spill.old) (length scratch.old) t l r n }
-    ensures { frame.new ++ spill.new ≡ pair_run t l r n (frame.old ++ spill.old) }
+fn pair_row(canvas: &mut Canvas, scratch: &mut [u8], t: usize, l: usize, r: usize, n: usize)
+    requires { PairRow (length canvas.old.frame.now) (length canvas.old.spill.now) (length scratch.old) t l r n }
+    ensures { Staged (pair_run t l r n) canvas.old canvas.new }
 {
-    if l + n <= t {
-        if t + n <= frame.len() {
-            if r + n <= frame.len() {
-                if (r + n <= t) | (t <= r) {
-                    pair_inside(frame, t, l, r, n);
-                    return;
-                }
-            }
-        }
+    let len = canvas.frame.len();
+    if l + n <= t && t + n <= len && r + n <= len && ((r + n <= t) | (t <= r)) {
+        pair_inside(canvas.frame, t, l, r, n);
+        return;
     }
-    pair_apart(frame, spill, scratch, t, l, r, n);
+    pair_apart(canvas, scratch, t, l, r, n);
 }
 
 const BLOCK: usize = 64;
@@ -106,6 +108,7 @@ fn mean_part(frame: &[u8], l: usize, r: usize) -> [u8; BLOCK]
 }
 
 // A block of the planes at a, b and d, from plane 0, whose rows are p apart. All that it reads lies before the first byte that it stores: so the three can be made first, and the compiler reads the block of plane 0 itself once for them.
+#[tactic(auto, using(crate::proofs::AtOnce::block_made))]
 fn mean_block(frame: &mut [u8], at: usize, p: usize, a: usize, b: usize, d: usize)
     requires { (p + 65 ≤ a) × (a ≤ b) × (b ≤ d) × (d + at + 64 ≤ length frame.old) }
     ensures { frame.new ≡ frame.old ▷ pair_run (a + at) at (1 + at) 64 ▷ pair_run (b + at) at (p + at) 64 ▷ pair_run (d + at) at (p + 1 + at) 64 }
@@ -125,41 +128,25 @@ fn chunked(w: usize) -> usize
     requires { w ≤ most_pitch }
     ensures { (result ≡ chunked w) × (result ≤ w + 15) }
 {
-    (w + SSE_CHUNK - 1) / SSE_CHUNK * SSE_CHUNK
-}
-
-// The row so far above, or the first.
-fn above(y: usize, k: usize) -> usize
-    ensures { result ≡ y - k }
-{
-    if y < k {
-        return 0;
-    }
-    y - k
+    w.next_multiple_of(SSE_CHUNK)
 }
 
 impl Interp {
     // The means of two planes.
-    fn pair(
-        self,
-        frame: &mut [u8],
-        spill: &mut [u8],
-        scratch: &mut [u8],
-        t: usize,
-        l: usize,
-        r: usize,
-    )
-        requires { PairPlane (length frame.old) (length spill.old) (length scratch.old) self t l r }
-        ensures { frame.new ++ spill.new ≡ pair_plane self t l r (frame.old ++ spill.old) }
+    #[tactic(auto, using(crate::proofs::Runs::passed_whole), unfolding(crate::specs::Refining::pair_plane))]
+    fn pair(self, canvas: &mut Canvas, scratch: &mut [u8], t: usize, l: usize, r: usize)
+        requires { PairPlane (length canvas.old.frame.now) (length canvas.old.spill.now) (length scratch.old) self t l r }
+        ensures { Staged (pair_plane self t l r) canvas.old canvas.new }
     {
         let n = chunked(self.width);
         let height = self.height;
         for y in 0..height {
             let row = y * self.pitch;
-            pair_row(frame, spill, scratch, t + row, l + row, r + row, n);
+            pair_row(canvas, scratch, t + row, l + row, r + row, n);
         }
     }
 
+    #[tactic(auto, unfolding(crate::specs::Canvas::copy_run))]
     fn copy_first_row(self, frame: &mut [u8], scratch: &mut [u8], t: usize, s: usize)
         requires { (s + self.width ≤ length frame.old) × (t + self.width ≤ length frame.old) × (self.width ≤ length scratch.old) }
         ensures { frame.new ≡ copy_run s t self.width frame.old }
@@ -185,6 +172,7 @@ impl Interp {
         put(frame, t, row);
     }
 
+    #[tactic(auto, using(layouts::proofs::Loops::walked_whole), unfolding(crate::specs::Refining::horizontal_plane))]
     fn horizontal(self, kernel: HalfPel, frame: &mut [u8], scratch: &mut [u8], t: usize, s: usize)
         requires { OnePlane (length frame.old) (length scratch.old) self.height self t s }
         ensures { frame.new ≡ horizontal_plane kernel self t s frame.old }
@@ -204,12 +192,13 @@ impl Interp {
         span(frame, s + y * self.pitch, self.width)
     }
 
+    #[tactic(auto, using(crate::proofs::Refined::vertical_rows_lem))]
     fn vertical_line(self, kernel: HalfPel, out: &mut [u8], frame: &[u8], s: usize, y: usize)
         requires { (y < self.height) × (self.height ≤ most_side) × (length out.old ≡ self.width) × (self.width ≤ self.pitch) × (s + (self.height + 3) * self.pitch ≤ length frame.now) }
         ensures { out.new ≡ vertical_run kernel self s y frame.now }
     {
-        let m2 = self.row(frame, s, above(y, 2));
-        let m1 = self.row(frame, s, above(y, 1));
+        let m2 = self.row(frame, s, y.saturating_sub(2));
+        let m1 = self.row(frame, s, y.saturating_sub(1));
         let c0 = self.row(frame, s, y);
         let p1 = self.row(frame, s, y + 1);
         let p2 = self.row(frame, s, y + 2);
@@ -234,6 +223,7 @@ impl Interp {
         put(frame, t + y * self.pitch, row);
     }
 
+    #[tactic(auto, using(layouts::proofs::Loops::walked_whole), unfolding(crate::specs::Refining::vertical_plane))]
     fn vertical(self, kernel: HalfPel, frame: &mut [u8], scratch: &mut [u8], t: usize, s: usize)
         requires { OnePlane (length frame.old) (length scratch.old) (self.height + 3) self t s }
         ensures { frame.new ≡ vertical_plane kernel self t s frame.old }
@@ -253,21 +243,13 @@ impl Interp {
     }
 
     // Plane k, of the means of plane 0 and the places r on; then its first row is copied from s.
-    fn pair_under_row(
-        self,
-        frame: &mut [u8],
-        spill: &mut [u8],
-        scratch: &mut [u8],
-        k: usize,
-        r: usize,
-        s: usize,
-    )
-        requires { (FirstRow k r s self) × (Planes (k + 1) (length frame.old) (length scratch.old) self) × (16 ≤ length spill.old) }
-        ensures { frame.new ++ spill.new ≡ copy_run s (plane_at self k) self.width (pair_plane self (plane_at self k) 0 r (frame.old ++ spill.old)) }
+    fn pair_under_row(self, canvas: &mut Canvas, scratch: &mut [u8], k: usize, r: usize, s: usize)
+        requires { (FirstRow k r s self) × (Planes (k + 1) (length canvas.old.frame.now) (length scratch.old) self) × (16 ≤ length canvas.old.spill.now) }
+        ensures { Staged (λ c. c ▷ pair_plane self (plane_at self k) 0 r ▷ copy_run s (plane_at self k) self.width) canvas.old canvas.new }
     {
         let t = self.plane(k);
-        self.pair(frame, spill, scratch, t, 0, r);
-        self.copy_first_row(frame, scratch, t, s);
+        self.pair(canvas, scratch, t, 0, r);
+        self.copy_first_row(canvas.frame, scratch, t, s);
     }
 
     // The planes at a, b and d in one pass, which is open-svpflow's `refine_bilinear2`.
@@ -285,105 +267,93 @@ impl Interp {
         self,
         frame: &mut [u8],
         scratch: &mut [u8],
-        horizontal: usize,
-        vertical: usize,
-        diagonal: usize,
+        at: HalfPlanes,
     )
-        requires { (Tight self) × (Halves horizontal vertical diagonal) × (Planes (diagonal + 1) (length frame.old) (length scratch.old) self) }
-        ensures { frame.new ≡ mean_planes self horizontal vertical diagonal frame.old }
+        requires { (Tight self) × (Planes (at.diagonal + 1) (length frame.old) (length scratch.old) self) }
+        ensures { frame.new ≡ mean_planes self at.horizontal at.vertical at.diagonal frame.old }
     {
-        let across = self.plane(horizontal);
-        let below = self.plane(vertical);
-        let both = self.plane(diagonal);
+        let across = self.plane(at.horizontal);
+        let below = self.plane(at.vertical);
+        let both = self.plane(at.diagonal);
         self.mean_blocks(frame, across, below, both);
         self.copy_first_row(frame, scratch, below, 0);
         self.copy_first_row(frame, scratch, both, 1);
     }
 
+    #[tactic(auto, unfolding(crate::specs::Refining::mean_planes))]
     fn mean_in_turn(
         self,
-        frame: &mut [u8],
-        spill: &mut [u8],
+        canvas: &mut Canvas,
         scratch: &mut [u8],
-        horizontal: usize,
-        vertical: usize,
-        diagonal: usize,
+        at: HalfPlanes,
     )
-        requires { (Halves horizontal vertical diagonal) × (Planes (diagonal + 1) (length frame.old) (length scratch.old) self) × (16 ≤ length spill.old) }
-        ensures { frame.new ++ spill.new ≡ mean_planes self horizontal vertical diagonal (frame.old ++ spill.old) }
+        requires { (Planes (at.diagonal + 1) (length canvas.old.frame.now) (length scratch.old) self) × (16 ≤ length canvas.old.spill.now) }
+        ensures { Staged (mean_planes self at.horizontal at.vertical at.diagonal) canvas.old canvas.new }
     {
-        let target = self.plane(horizontal);
-        self.pair(frame, spill, scratch, target, 0, 1);
-        self.pair_under_row(frame, spill, scratch, vertical, self.pitch, 0);
-        self.pair_under_row(frame, spill, scratch, diagonal, self.pitch + 1, 1);
+        let target = self.plane(at.horizontal);
+        self.pair(canvas, scratch, target, 0, 1);
+        self.pair_under_row(canvas, scratch, at.vertical, self.pitch, 0);
+        self.pair_under_row(canvas, scratch, at.diagonal, self.pitch + 1, 1);
     }
 
     // At once where the chunks of rows lie end to end, a plane is whole blocks, and what a block reads, up to a row and a byte further on, lies before the block of the next plane; else in turn.
     fn mean_planes(
         self,
-        frame: &mut [u8],
-        spill: &mut [u8],
+        canvas: &mut Canvas,
         scratch: &mut [u8],
-        horizontal: usize,
-        vertical: usize,
-        diagonal: usize,
+        at: HalfPlanes,
     )
-        requires { (Halves horizontal vertical diagonal) × (Planes (diagonal + 1) (length frame.old) (length scratch.old) self) × (16 ≤ length spill.old) }
-        ensures { frame.new ++ spill.new ≡ mean_planes self horizontal vertical diagonal (frame.old ++ spill.old) }
+        requires { (Planes (at.diagonal + 1) (length canvas.old.frame.now) (length scratch.old) self) × (16 ≤ length canvas.old.spill.now) }
+        ensures { Staged (mean_planes self at.horizontal at.vertical at.diagonal) canvas.old canvas.new }
     {
         let size = self.plane(1);
-        if chunked(self.width) == self.pitch {
-            if size / BLOCK * BLOCK == size {
-                if self.pitch + BLOCK < size {
-                    self.mean_at_once(frame, scratch, horizontal, vertical, diagonal);
-                    return;
-                }
-            }
+        if chunked(self.width) == self.pitch
+            && size.is_multiple_of(BLOCK)
+            && self.pitch + BLOCK < size
+        {
+            self.mean_at_once(canvas.frame, scratch, at);
+            return;
         }
-        self.mean_in_turn(frame, spill, scratch, horizontal, vertical, diagonal);
+        self.mean_in_turn(canvas, scratch, at);
     }
 
+    #[tactic(auto, unfolding(crate::specs::Refining::kernel_planes))]
     fn kernel_planes(
         self,
         kernel: HalfPel,
         frame: &mut [u8],
         scratch: &mut [u8],
-        horizontal: usize,
-        vertical: usize,
-        diagonal: usize,
+        at: HalfPlanes,
     )
-        requires { (Halves horizontal vertical diagonal) × (Planes (diagonal + 1) (length frame.old) (length scratch.old) self) }
-        ensures { frame.new ≡ kernel_planes kernel self horizontal vertical diagonal frame.old }
+        requires { Planes (at.diagonal + 1) (length frame.old) (length scratch.old) self }
+        ensures { frame.new ≡ kernel_planes kernel self at.horizontal at.vertical at.diagonal frame.old }
     {
-        let across = self.plane(horizontal);
-        let below = self.plane(vertical);
-        let both = self.plane(diagonal);
+        let across = self.plane(at.horizontal);
+        let below = self.plane(at.vertical);
+        let both = self.plane(at.diagonal);
         self.horizontal(kernel, frame, scratch, across, 0);
         self.vertical(kernel, frame, scratch, below, 0);
         self.horizontal(kernel, frame, scratch, both, below);
     }
 
     // The planes at half places, by their numbers.
+    #[tactic(auto, unfolding(crate::specs::Refining::half_planes))]
     fn half_planes(
         self,
-        frame: &mut [u8],
-        spill: &mut [u8],
+        canvas: &mut Canvas,
         scratch: &mut [u8],
         upscale: Upscale,
-        horizontal: usize,
-        vertical: usize,
-        diagonal: usize,
+        at: HalfPlanes,
     )
-        requires { (Halves horizontal vertical diagonal) × (Planes (diagonal + 1) (length frame.old) (length scratch.old) self) × (16 ≤ length spill.old) }
-        ensures { frame.new ++ spill.new ≡ half_planes upscale self horizontal vertical diagonal (frame.old ++ spill.old) }
+        requires { (Planes (at.diagonal + 1) (length canvas.old.frame.now) (length scratch.old) self) × (16 ≤ length canvas.old.spill.now) }
+        ensures { Staged (half_planes upscale self at.horizontal at.vertical at.diagonal) canvas.old canvas.new }
     {
         match upscale {
-            Upscale::Means => self.mean_planes(
-                frame, spill, scratch, horizontal, vertical, diagonal,
-            ),
+            Upscale::Means => self.mean_planes(canvas, scratch, at),
             Upscale::Kernel(kernel) => self.kernel_planes(
-                kernel, frame, scratch, horizontal, vertical, diagonal,
-            ),
+                kernel,
+                canvas.frame,
+                scratch, at),
         }
     }
 }
@@ -476,9 +446,10 @@ pub const PAIRS: [Pair; 12] = [
     },
 ];
 
-fn quarter(frame: &mut [u8], spill: &mut [u8], scratch: &mut [u8], i: Interp, pair: Pair)
-    requires { (Quarter pair) × (Planes 16 (length frame.old) (length scratch.old) i) × (16 ≤ length spill.old) }
-    ensures { frame.new ++ spill.new ≡ quarter i pair (frame.old ++ spill.old) }
+#[tactic(auto, unfolding(crate::specs::Refining::quarter))]
+fn quarter(canvas: &mut Canvas, scratch: &mut [u8], i: Interp, pair: Pair)
+    requires { (Quarter pair) × (Planes 16 (length canvas.old.frame.now) (length scratch.old) i) × (16 ≤ length canvas.old.spill.now) }
+    ensures { Staged (quarter i pair) canvas.old canvas.new }
 {
     let part = Interp {
         pitch: i.pitch,
@@ -488,34 +459,27 @@ fn quarter(frame: &mut [u8], spill: &mut [u8], scratch: &mut [u8], i: Interp, pa
     let target = i.plane(pair.target);
     let left = i.plane(pair.left) + pair.across + pair.below * i.pitch;
     let right = i.plane(pair.right);
-    part.pair(frame, spill, scratch, target, left, right);
+    part.pair(canvas, scratch, target, left, right);
 }
 
-fn quarters(frame: &mut [u8], spill: &mut [u8], scratch: &mut [u8], i: Interp)
-    requires { (Planes 16 (length frame.old) (length scratch.old) i) × (16 ≤ length spill.old) }
-    ensures { frame.new ++ spill.new ≡ fold_pairs (quarter i) pairs (frame.old ++ spill.old) }
+fn quarters(canvas: &mut Canvas, scratch: &mut [u8], i: Interp)
+    requires { (Planes 16 (length canvas.old.frame.now) (length scratch.old) i) × (16 ≤ length canvas.old.spill.now) }
+    ensures { Staged (fold_pairs (quarter i) pairs) canvas.old canvas.new }
 {
-    for k in 0..12 {
-        let pair = PAIRS[k];
-        quarter(frame, spill, scratch, i, pair);
+    for pair in PAIRS {
+        quarter(canvas, scratch, i, pair);
     }
 }
 
-pub fn refine(
-    frame: &mut [u8],
-    spill: &mut [u8],
-    scratch: &mut [u8],
-    i: Interp,
-    pel: u32,
-    upscale: Upscale,
-)
-    requires { ((pel ≡ 2) ⊎ (pel ≡ 4)) × (Planes (pel * pel) (length frame.old) (length scratch.old) i) × (16 ≤ length spill.old) }
-    ensures { frame.new ++ spill.new ≡ refine i pel upscale (frame.old ++ spill.old) }
+#[tactic(auto, using(crate::proofs::Refined::pel_four), unfolding(crate::specs::Refining::refine))]
+pub fn refine(canvas: &mut Canvas, scratch: &mut [u8], i: Interp, pel: u32, upscale: Upscale)
+    requires { ((pel ≡ 2) ⊎ (pel ≡ 4)) × (Planes (pel * pel) (length canvas.old.frame.now) (length scratch.old) i) × (16 ≤ length canvas.old.spill.now) }
+    ensures { Staged (refine i pel upscale) canvas.old canvas.new }
 {
     if pel == 2 {
-        i.half_planes(frame, spill, scratch, upscale, 1, 2, 3);
+        i.half_planes(canvas, scratch, upscale, AT_PEL_2);
         return;
     }
-    i.half_planes(frame, spill, scratch, upscale, 2, 8, 10);
-    quarters(frame, spill, scratch, i);
+    i.half_planes(canvas, scratch, upscale, AT_PEL_4);
+    quarters(canvas, scratch, i);
 }

@@ -1,6 +1,6 @@
 // One row of a later level before it is halved: from the rows of its source around it, with open-svpflow's edges and, for the generic cubic, the columns past its whole eights.
 // First the columns by rows alone; then the others; last the row.
-ghost use Rattle.std.specs.Prelude.{◌≡◌, ◌+◌, ◌*◌, ◌≤◌, ◌<◌, min, length};
+ghost use Rattle.std.specs.Prelude.{◌≡◌, ◌+◌, ◌*◌, ◌≤◌, ◌<◌, length};
 ghost use Rattle.filters.specs.Halve.{last_row};
 ghost use Rattle.builder.specs.Halving.{whole_of, whole_line, rest_line, inner_line, vertical_line};
 ghost use Rattle.builder.specs.Room.{Source};
@@ -14,23 +14,12 @@ fn whole_columns(filter: ReduceFilter, n: usize) -> usize
 {
     match filter {
         ReduceFilter::Cubic => n / 8 * 8,
-        ReduceFilter::Average => n,
-        ReduceFilter::Bilinear => n,
-        ReduceFilter::Quadratic => n,
+        ReduceFilter::Average | ReduceFilter::Bilinear | ReduceFilter::Quadratic => n,
     }
-}
-
-// The second row down, or the last that is read.
-fn second(last: usize) -> usize
-    ensures { result ≡ min last 2 }
-{
-    if last < 2 {
-        return last;
-    }
-    2
 }
 
 // A row that the filter doesn't read may lie past the source: one that it reads stands in for it.
+#[tactic(auto, using(crate::proofs::Lines::whole_read))]
 fn whole_line(filter: ReduceFilter, out: &mut [u8], s: &[u8], at: usize, src_pitch: usize)
     requires { (2 * src_pitch ≤ at) × (at + last_row filter * src_pitch + length out.old ≤ length s.now) }
     ensures { out.new ≡ whole_line filter (length out.old) s.now at src_pitch }
@@ -42,11 +31,12 @@ fn whole_line(filter: ReduceFilter, out: &mut [u8], s: &[u8], at: usize, src_pit
     let m1 = span(s, at - src_pitch, n);
     let c0 = span(s, at, n);
     let p1 = span(s, at + src_pitch, n);
-    let p2 = span(s, at + second(last) * src_pitch, n);
+    let p2 = span(s, at + last.min(2) * src_pitch, n);
     let p3 = span(s, at + last * src_pitch, n);
     filter.vertical_filter(out, m2, m1, c0, p1, p2, p3);
 }
 
+#[tactic(auto, unfolding(crate::specs::Halving::rest_line))]
 fn rest_line(out: &mut [u8], s: &[u8], x: usize, src_pitch: usize)
     requires { (2 * src_pitch ≤ x) × (x + 3 * src_pitch + length out.old ≤ length s.now) }
     ensures { out.new ≡ rest_line (length out.old) s.now x src_pitch }
@@ -62,6 +52,7 @@ fn rest_line(out: &mut [u8], s: &[u8], x: usize, src_pitch: usize)
     cubic_rest(out, a, m1, c0, p1, b, c);
 }
 
+#[tactic(auto, using(crate::proofs::Lines::inner_all, crate::proofs::Lines::inner_both))]
 fn inner_line(filter: ReduceFilter, out: &mut [u8], s: &[u8], at: usize, src_pitch: usize)
     requires { (2 * src_pitch ≤ at) × (at + last_row filter * src_pitch + length out.old ≤ length s.now) }
     ensures { out.new ≡ inner_line filter (whole_of filter (length out.old)) (length out.old) s.now at src_pitch }
@@ -76,6 +67,7 @@ fn inner_line(filter: ReduceFilter, out: &mut [u8], s: &[u8], at: usize, src_pit
 }
 
 // Target row y of h, from the source rows that lie src_pitch apart from base.
+#[tactic(auto, using(crate::proofs::Lines::line_edge, crate::proofs::Lines::line_inner))]
 pub fn vertical_line(
     filter: ReduceFilter,
     out: &mut [u8],

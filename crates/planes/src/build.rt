@@ -1,14 +1,15 @@
 // A plane of a frame, built whole: open-svpflow's `build_plane`.
 // First level 0; then the refining of it; then all stages; last the call with a switch for the fused path, and the public one.
-ghost use Rattle.std.specs.Prelude.{◌≡◌, cond, ◌++◌, ◌≤◌, length};
+ghost use Rattle.std.specs.Prelude.{◌≡◌, cond, ◌≤◌, length};
 ghost use Rattle.settings.specs.Answers.{tested};
 ghost use Rattle.layouts.specs.Layout.{levels_of, written_end, spill_need, scratch_need};
 ghost use Rattle.layouts.specs.Room.{Ready};
+ghost use Rattle.builder.specs.Canvas.{Staged};
 ghost use Rattle.planes.specs.Build.{copied, refined, built_by, frame_by, LeavesBy, BuildLeaves};
 
 use crate::later::reduce_levels;
 use crate::level0::source_row;
-use builder::canvas::put;
+use builder::canvas::{Canvas, put};
 use builder::refining::{Interp, refine};
 use filters::half_pel::HalfPel;
 use filters::rows::zero_row;
@@ -36,9 +37,9 @@ fn copy_rows(frame: &mut [u8], layout: Layout, src: &[u8], src_pitch: usize)
 }
 
 // Whether level 0's planes are refined, and the refining.
-fn refine_planes(frame: &mut [u8], spill: &mut [u8], scratch: &mut [u8], fitting: Fitting)
-    requires { (1 ≤ levels_of fitting.layout) × (written_end fitting.layout ≤ length frame.old) × (spill_need fitting.layout ≤ length spill.old) × (scratch_need fitting.layout ≤ length scratch.old) }
-    ensures { frame.new ++ spill.new ≡ refined fitting.layout (frame.old ++ spill.old) }
+fn refine_planes(canvas: &mut Canvas, scratch: &mut [u8], fitting: Fitting)
+    requires { (1 ≤ levels_of fitting.layout) × (written_end fitting.layout ≤ length canvas.old.frame.now) × (spill_need fitting.layout ≤ length canvas.old.spill.now) × (scratch_need fitting.layout ≤ length scratch.old) }
+    ensures { Staged (refined fitting.layout) canvas.old canvas.new }
 {
     let layout = fitting.layout;
     let opts = layout.opts;
@@ -53,27 +54,26 @@ fn refine_planes(frame: &mut [u8], spill: &mut [u8], scratch: &mut [u8], fitting
         height: height(layout, 0),
     };
     let upscale = HalfPel::from_option(opts.scale_up);
-    refine(frame, spill, scratch, i, n.pel, upscale);
+    refine(canvas, scratch, i, n.pel, upscale);
 }
 
 fn build_levels(
     fuse: bool,
-    frame: &mut [u8],
-    spill: &mut [u8],
+    canvas: &mut Canvas,
     scratch: &mut [u8],
     fitting: Fitting,
     src: &[u8],
     src_pitch: usize,
 )
-    requires { Ready fitting.layout (length src.now) src_pitch (length frame.old) (length spill.old) (length scratch.old) }
-    ensures { frame.new ++ spill.new ≡ built_by fuse fitting.layout src.now src_pitch (length frame.old) (frame.old ++ spill.old) }
+    requires { Ready fitting.layout (length src.now) src_pitch (length canvas.old.frame.now) (length canvas.old.spill.now) (length scratch.old) }
+    ensures { Staged (built_by fuse fitting.layout src.now src_pitch (length canvas.old.frame.now)) canvas.old canvas.new }
 {
     if fitting.layout.opts.naturals().levels == 0 {
         return;
     }
-    copy_rows(frame, fitting.layout, src, src_pitch);
-    reduce_levels(fuse, frame, spill, scratch, fitting, src, src_pitch);
-    refine_planes(frame, spill, scratch, fitting);
+    copy_rows(canvas.frame, fitting.layout, src, src_pitch);
+    reduce_levels(fuse, canvas, scratch, fitting, src, src_pitch);
+    refine_planes(canvas, scratch, fitting);
 }
 
 // The build itself, for calls that have tested what they are lent. As much of the spill as it may read holds zeros before.
@@ -92,7 +92,11 @@ pub fn build_spilled(
     let need = fitting.spill_need();
     let beyond = &mut spill[..need];
     zero_row(beyond);
-    build_levels(fuse, frame, beyond, scratch, fitting, src, src_pitch);
+    let mut canvas = Canvas {
+        frame,
+        spill: beyond,
+    };
+    build_levels(fuse, &mut canvas, scratch, fitting, src, src_pitch);
 }
 
 // For a site that turned the fused path off and asks what it may compare: the comparison with the Rust runs both with the path off.

@@ -17,7 +17,3 @@ loop-y-preserved c =
     let w = c.args.target.width in
     let at = c.args.target.offset + l.y * c.args.pitch in
     (walked_more l.invariant.0 lt v.auto.frame (v.ensures ∙ halve_alone c.args.filter w at _ (omega (arith, row_fits _ _ _ _ _ _ c.requires.1 c.requires.2 lt, l.invariant.0.same))), v.auto.scratch ∙ l.invariant.1)
-
-pub returns : goal.returns
-unfolding horizontal_rows
-returns c = walked_whole c.loop-y.invariant.0 c.loop-y-test.false

@@ -1,6 +1,6 @@
 -- `horizontal_rows` meets its contract. The loop has halved the rows passed. Assumes nothing.
 use mathlib.Core.Path.{◌≡◌}
-use Prim.Native.Nat.{◌+◌, ◌*◌, ◌-◌}
+use Prim.Native.Nat.{◌+◌, ◌*◌}
 use lib.ListN.{length}
 use Rattle.layouts.proofs.Loops.{Walked}
 use Rattle.builder.specs.Halving.{halve_run}
@@ -8,6 +8,3 @@ use Rattle.builder.proofs.halving.horizontal_rows.Given as goal
 
 abbrev pub invariant-loop-y : goal.invariant-loop-y
 invariant-loop-y l = Walked (λ i. halve_run l.filter l.target.width (l.target.offset + i * l.pitch)) l.initial.frame l.frame l.height l.y × (length l.scratch ≡ length l.initial.scratch)
-
-abbrev pub decreases-loop-y : goal.decreases-loop-y
-decreases-loop-y l = l.height - l.y

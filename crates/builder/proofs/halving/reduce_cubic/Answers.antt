@@ -15,7 +15,3 @@ loop-y-preserved c =
     let l = c.loop-y in
     let v = c.fused_row in
     (walked_more l.invariant.0 c.loop-y-test.true v.auto.frame (v.ensures ∙ ap (λ (n : ℕ). put l.frame (t.offset + l.y * c.args.pitch) (fused_line c.args.pitch t.width (vertical_line Cubic n (2 * t.width) t.height l.frame c.args.base c.args.pitch l.y))) c.requires.1), v.auto.scratch ∙ l.invariant.1)
-
-pub returns : goal.returns
-unfolding fused
-returns c = walked_whole c.loop-y.invariant.0 c.loop-y-test.false

@@ -11,7 +11,3 @@ loop-y-preserved c =
     let l = c.loop-y in
     let v = c.vertical_row in
     (walked_more l.invariant.0 c.loop-y-test.true v.auto.frame v.ensures, v.auto.scratch ∙ l.invariant.1)
-
-pub returns : goal.returns
-unfolding vertical_rows
-returns c = walked_whole c.loop-y.invariant.0 c.loop-y-test.false

@@ -1,25 +1,19 @@
-use mathlib.Core.Path.{◌∙◌}
-use mathlib.Core.List.{◌++◌}
 use native.Mathlib.Omega.{arith}
-use Rattle.layouts.proofs.Loops.{walked_whole}
-use Rattle.builder.proofs.Runs.{passed_none, passed_more}
+use Rattle.builder.specs.Canvas.{bytes_of}
+use Rattle.builder.proofs.Runs.{passed_none, passed_more, passed_whole, staged_as}
 use Rattle.builder.proofs.Refined.{planes_kept, table_row, table_walked}
 use Rattle.builder.proofs.refining.quarters.Goals as goal
 
-pub loop-k-init : goal.loop-k-init
-loop-k-init c = passed_none
+pub loop-pair-init : goal.loop-pair-init
+loop-pair-init c = passed_none
 
 pub quarter-requires : goal.quarter-requires
 quarter-requires c =
-    let v = c.loop-k.invariant in
-    (table_row c.loop-k.k c.loop-k-test.true, planes_kept c.requires.0 v.frame v.scratch, omega (arith, c.requires.1, v.spill))
+    let v = c.loop-pair.invariant in
+    (table_row c.loop-pair.pair-index c.loop-pair-test.true, planes_kept c.requires.0 v.staged.frame_long v.scratch, omega (arith, c.requires.1, v.staged.spill_long))
 
-pub loop-k-preserved : goal.loop-k-preserved
-loop-k-preserved c =
-    let q = c.quarter in
-    let l = c.loop-k in
-    let v = l.invariant in
-    passed_more v c.loop-k-test.true q.auto.frame q.auto.spill q.auto.scratch q.ensures
+pub loop-pair-preserved : goal.loop-pair-preserved
+loop-pair-preserved c = let q = c.quarter in passed_more c.loop-pair.invariant c.loop-pair-test.true q.auto.scratch q.ensures
 
 pub returns : goal.returns
-returns c = let a = c.args in walked_whole c.loop-k.invariant.walk c.loop-k-test.false ∙ table_walked a.i (a.frame.now ++ a.spill.now)
+returns c = let a = c.args in staged_as (passed_whole c.loop-pair.invariant c.loop-pair-test.false) (table_walked a.i (bytes_of a.canvas.now))

@@ -5,7 +5,4 @@ use Rattle.builder.proofs.Runs.{Passed}
 use Rattle.builder.proofs.separate.close_up.Given as goal
 
 abbrev pub invariant-loop-y : goal.invariant-loop-y
-invariant-loop-y l = (1 ≤ l.y) × Passed (λ i. copy_run (l.target.offset + (i + 1) * (2 * l.pitch)) (l.target.offset + (i + 1) * l.pitch) l.pitch) l.initial.frame l.initial.spill l.initial.scratch l.frame l.spill l.scratch (l.height - 1) (l.y - 1)
-
-abbrev pub decreases-loop-y : goal.decreases-loop-y
-decreases-loop-y l = l.height - l.y
+invariant-loop-y l = (1 ≤ l.y) × Passed (λ i. copy_run (l.target.offset + (i + 1) * (2 * l.pitch)) (l.target.offset + (i + 1) * l.pitch) l.pitch) l.initial.canvas l.initial.scratch l.canvas l.scratch (l.height - 1) (l.y - 1)

@@ -1,7 +1,6 @@
 use mathlib.Core.Path.{refl, ◌∙◌}
-use Rattle.layouts.proofs.Loops.{walked_whole}
 use Rattle.builder.specs.Halving.{horizontal_rows}
-use Rattle.builder.proofs.Runs.{passed_none, passed_more}
+use Rattle.builder.proofs.Runs.{passed_none, passed_more, passed_whole, staged_as}
 use Rattle.builder.proofs.separate.spread_horizontal.Goals as goal
 
 pub loop-y-init : goal.loop-y-init
@@ -11,8 +10,4 @@ pub loop-y-preserved : goal.loop-y-preserved
 loop-y-preserved c =
     let l = c.loop-y in
     let r = c.spread_halve_row in
-    (passed_more l.invariant.0 c.loop-y-test.true r.auto.frame r.auto.spill r.auto.scratch r.ensures, r.auto.split ∙ l.invariant.1)
-
-pub returns : goal.returns
-unfolding horizontal_rows
-returns c = walked_whole c.loop-y.invariant.0.walk c.loop-y-test.false
+    (passed_more l.invariant.0 c.loop-y-test.true r.auto.scratch r.ensures, r.auto.split ∙ l.invariant.1)

@@ -1,6 +1,5 @@
 -- `build_plane_by` meets its contract. Assumes nothing.
-use mathlib.Core.Path.{◌≡◌, sym, ap, ◌∙◌}
-use Rattle.settings.specs.Answers.{tested}
+use mathlib.Core.Path.{◌≡◌, sym}
 use Rattle.lookups.proofs.Numbers.{build_stored}
 use Rattle.planes.specs.Build.{plane_no}
 use Rattle.planes.proofs.Whole.{ready_stored}

@@ -2,6 +2,7 @@
 use mathlib.Core.Path.{◌≡◌, refl, sym, ap, ◌∙◌}
 use mathlib.Core.Bool.{Bool, ◌&&◌}
 use Rattle.settings.proofs.Tests.{and_right}
+use Rattle.builder.proofs.Runs.{staged_as}
 use Rattle.planes.proofs.Prepared.{fused_stored, fused_whole, within_here, spread_here, by_fused, by_stored, by_source}
 use Rattle.planes.proofs.later.reduce.Goals as goal
 
@@ -20,7 +21,13 @@ pub returns-then-fuse-fuses : goal.returns-then-fuse-fuses
 returns-then-fuse-fuses c =
     let s = c.requires in
     let t = c.args.later in
-    by_fused _ s.0 _ s.1 t.at.there t.above t.at.lies _ _ _ _ _ refl (test c.args.fuse c.fuses.result c.fuses.ensures ∙ c.if-fuse-fuses.true) c.reduce_cubic.ensures
+    record {
+      bytes = by_fused _ s.0 _ s.1 t.at.there t.above t.at.lies _ _ _ _ _ refl (test c.args.fuse c.fuses.result c.fuses.ensures ∙ c.if-fuse-fuses.true) c.reduce_cubic.ensures;
+      frame_long = c.reduce_cubic.auto.frame;
+      spill_long = refl;
+      frame_name = refl;
+      spill_name = refl;
+    }
 
 pub reduce_within-requires : goal.reduce_within-requires
 reduce_within-requires c =
@@ -32,7 +39,13 @@ pub returns-then-layout-later : goal.returns-then-layout-later
 returns-then-layout-later c =
     let s = c.requires in
     let t = c.args.later in
-    by_stored _ s.0 _ s.1 t.at.there t.above t.at.lies _ _ _ _ _ refl (test c.args.fuse c.fuses.result c.fuses.ensures ∙ c.if-fuse-fuses.false) c.if-layout-later.true c.reduce_within.ensures
+    record {
+      bytes = by_stored _ s.0 _ s.1 t.at.there t.above t.at.lies _ _ _ _ _ refl (test c.args.fuse c.fuses.result c.fuses.ensures ∙ c.if-fuse-fuses.false) c.if-layout-later.true c.reduce_within.ensures;
+      frame_long = c.reduce_within.auto.frame;
+      spill_long = refl;
+      frame_name = refl;
+      spill_name = refl;
+    }
 
 pub reduce_separate-requires : goal.reduce_separate-requires
 reduce_separate-requires c =
@@ -44,4 +57,4 @@ pub returns : goal.returns
 returns c =
     let s = c.requires in
     let t = c.args.later in
-    by_source _ s.0 _ s.1 t.at.there t.above t.at.lies _ _ _ c.args.frame.now c.args.spill.now refl (test c.args.fuse c.fuses.result c.fuses.ensures ∙ c.if-fuse-fuses.false) c.if-layout-later.false c.reduce_separate.ensures
+    staged_as c.reduce_separate.ensures (by_source _ s.0 _ s.1 t.at.there t.above t.at.lies _ _ _ c.args.canvas.now.frame.now c.args.canvas.now.spill.now refl (test c.args.fuse c.fuses.result c.fuses.ensures ∙ c.if-fuse-fuses.false) c.if-layout-later.false refl)

@@ -7,9 +7,9 @@ use Rattle.settings.specs.declared.super_opts.Naturals.{Naturals}
 use Rattle.layouts.specs.declared.fitting.Fitting.{Fitting}
 use Rattle.layouts.specs.Storing.{steps}
 use Rattle.layouts.specs.Layout.{levels_of}
-use Rattle.layouts.proofs.Loops.{walked_whole}
 use Rattle.layouts.proofs.Layouts.{turn, above_at}
-use Rattle.builder.proofs.Runs.{passed_none, passed_next}
+use Rattle.builder.specs.Canvas.{bytes_of}
+use Rattle.builder.proofs.Runs.{passed_none, passed_next, passed_whole, staged_as}
 use Rattle.planes.specs.Build.{level_by, halved_by}
 use Rattle.planes.proofs.later.reduce_each.Goals as goal
 
@@ -33,18 +33,17 @@ invariant_of-later c = record { above = above_at c.loop-level.above c.next-at.re
 pub reduce-requires : goal.reduce-requires
 reduce-requires c =
     let l = c.loop-level in
-    rw (c.here.ensures.0, c.next-at.ensures.0, l.invariant.2, l.auto.frame, l.auto.spill, l.auto.scratch) (c.requires, omega (arith, c.next-at.ensures.1, c.here.ensures.1))
+    rw (c.here.ensures.0, c.next-at.ensures.0, l.invariant.2, l.invariant.1.staged.frame_long, l.invariant.1.staged.spill_long, l.auto.scratch) (c.requires, omega (arith, c.next-at.ensures.1, c.here.ensures.1))
 
 pub loop-level-preserved : goal.loop-level-preserved
 loop-level-preserved c =
     let a = c.args in
     let l = c.loop-level in
     let r = c.reduce in
-    let same = c.next-at.ensures.0 ∙ l.invariant.2 in
-    (
+    let same = c.next-at.ensures.0 ∙ l.invariant.2 in (
       omega arith,
-      passed_next (level_by a.fuse a.fitting.layout a.src.now a.src_pitch (length a.frame.now) a.filter) l.invariant.0 l.invariant.1 c.loop-level-test.true r.auto.frame r.auto.spill r.auto.scratch
-      (r.ensures ∙ ap₂ (λ (x : Fitting) (n : ℕ). level_by a.fuse x.layout a.src.now a.src_pitch (length l.frame) a.filter n (l.frame ++ l.spill)) (c.here.ensures.0 ∙ same) (omega (arith, l.invariant.0, l.invariant.3, c.next-at.ensures.1, c.here.ensures.1)) ∙ ap (λ (k : ℕ). level_by a.fuse a.fitting.layout a.src.now a.src_pitch k a.filter l.level (l.frame ++ l.spill)) l.invariant.1.frame),
+      passed_next (level_by a.fuse a.fitting.layout a.src.now a.src_pitch (length a.canvas.now.frame.now) a.filter) l.invariant.0 l.invariant.1 c.loop-level-test.true r.auto.scratch
+          (staged_as r.ensures (ap₂ (λ (x : Fitting) (n : ℕ). level_by a.fuse x.layout a.src.now a.src_pitch (length l.canvas.frame.now) a.filter n (bytes_of l.canvas)) (c.here.ensures.0 ∙ same) (omega (arith, l.invariant.0, l.invariant.3, c.next-at.ensures.1, c.here.ensures.1)) ∙ ap (λ (k : ℕ). level_by a.fuse a.fitting.layout a.src.now a.src_pitch k a.filter l.level (bytes_of l.canvas)) l.invariant.1.staged.frame_long)),
       same,
       omega (arith, l.invariant.0, l.invariant.3, c.next-at.ensures.1),
     )
@@ -54,5 +53,5 @@ unfolding halved_by
 returns c =
     let a = c.args in
     let n = ap (λ (x : Naturals). x.levels) c.naturals-levels.ensures in
-    walked_whole c.loop-level.invariant.1.walk (omega (arith, c.loop-level-test.false))
-    ∙ ap (λ (k : ℕ). steps (λ i. level_by a.fuse a.fitting.layout a.src.now a.src_pitch (length a.frame.now) a.filter (i + 1)) (k - 1) (a.frame.now ++ a.spill.now)) n
+    staged_as (passed_whole c.loop-level.invariant.1 (omega (arith, c.loop-level-test.false)))
+    (ap (λ (k : ℕ). steps (λ i. level_by a.fuse a.fitting.layout a.src.now a.src_pitch (length a.canvas.now.frame.now) a.filter (i + 1)) (k - 1) (bytes_of a.canvas.now)) n)

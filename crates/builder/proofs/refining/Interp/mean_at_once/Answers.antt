@@ -4,7 +4,7 @@ use Rattle.builder.proofs.AtOnce.{three_planes, once_stages, once_planes}
 use Rattle.builder.proofs.refining.Interp.mean_at_once.Goals as goal
 
 pub mean_blocks-requires : goal.mean_blocks-requires
-mean_blocks-requires c = let p = c.requires in (p.0, three_planes _ _ _ c.plane-across.ensures c.plane-below.ensures c.plane-both.ensures p.1 p.2)
+mean_blocks-requires c = let p = c.requires in (p.0, three_planes _ _ _ c.plane-across.ensures c.plane-below.ensures c.plane-both.ensures c.args.at.ordered p.1)
 
 pub returns : goal.returns
 returns c =
@@ -13,5 +13,5 @@ returns c =
     let ea = c.plane-across.ensures in
     let eb = c.plane-below.ensures in
     let ed = c.plane-both.ensures in
-    once_stages p.0 (three_planes _ _ _ ea eb ed p.1 p.2) p.2.fits a.frame.now _ _ _ refl c.mean_blocks.ensures c.copy_first_row.ensures c.copy_first_row-2.ensures
-    ∙ once_planes a.self a.horizontal a.vertical a.diagonal _ _ _ ea eb ed a.frame.now
+    once_stages p.0 (three_planes _ _ _ ea eb ed a.at.ordered p.1) p.1.fits a.frame.now _ _ _ refl c.mean_blocks.ensures c.copy_first_row.ensures c.copy_first_row-2.ensures
+    ∙ once_planes a.self a.at.horizontal a.at.vertical a.at.diagonal _ _ _ ea eb ed a.frame.now

@@ -8,7 +8,3 @@ loop-y-init c = (walked_none, refl)
 
 pub loop-y-preserved : goal.loop-y-preserved
 loop-y-preserved c = (walked_more c.loop-y.invariant.0 c.loop-y-test.true c.vertical_row.auto.frame c.vertical_row.ensures, c.vertical_row.auto.scratch ∙ c.loop-y.invariant.1)
-
-pub returns : goal.returns
-unfolding vertical_plane
-returns c = walked_whole c.loop-y.invariant.0 c.loop-y-test.false
