@@ -1,6 +1,6 @@
 -- Laws of refining: a row stored in the list that it is read of; a row of a pair, and the rows around one; planes that lie in a frame; the stages one after the other; last the table of pairs. Assumes nothing.
-use mathlib.Core.Bool.{Bool, true, ◌&&◌, ◌||◌}
-use mathlib.Core.Logic.{◌⊎◌, inl, inr, ⊎_elim}
+use mathlib.Core.Bool.{Bool, true, ◌&&◌}
+use mathlib.Core.Logic.{◌⊎◌, ⊎_elim}
 use mathlib.Core.Path.{◌≡◌, refl, sym, ap, ◌∙◌, subst}
 use mathlib.Core.List.{List, [], ◌∷◌, ◌++◌, append_assoc}
 use Prim.Native.Nat.{ℕ, zero, suc, ◌+◌, ◌*◌, ◌-◌, ◌≤◌, ◌<◌}
@@ -11,7 +11,7 @@ use lib.Dec.{leb}
 use lib.ListN.{length, get_or, take, drop, set, length-append, length-drop, length-set, take-append-drop}
 use lib.Seq.{drop-cons, set_at, append_snoc, length-take-le}
 use borrow.Author.Tests.{leb-true}
-use Rattle.settings.proofs.Tests.{and_left, and_right, or_cases}
+use Rattle.settings.proofs.Tests.{and_left, and_right}
 use Rattle.filters.specs.Row.{tab, mean_of, means_of}
 use Rattle.filters.specs.Refine.{half_vertical}
 use Rattle.filters.specs.declared.half_pel.HalfPel.{HalfPel}
@@ -19,10 +19,10 @@ use Rattle.filters.proofs.Tables.{tab_length, tab_ext}
 use Rattle.filters.proofs.Lengths.{means_length}
 use Rattle.layouts.specs.Storing.{put, steps}
 use Rattle.layouts.proofs.Loops.{row_in, put_plain}
-use Rattle.builder.specs.Canvas.{fetch, copy_run}
+use Rattle.builder.specs.Canvas.{fetch}
 use Rattle.builder.specs.declared.refining.Interp.{Interp}
 use Rattle.builder.specs.declared.refining.Pair.{Pair}
-use Rattle.builder.specs.Refining.{pair_run, pair_plane, horizontal_plane, vertical_run, vertical_plane, plane_at, mean_planes, kernel_planes, pair_of, pairs, quarter, fold_pairs}
+use Rattle.builder.specs.Refining.{pair_run, pair_plane, horizontal_plane, vertical_run, vertical_plane, plane_at, kernel_planes, pair_of, pairs, quarter, fold_pairs}
 use Rattle.builder.specs.Room.{PairPlane, OnePlane, Planes, Halves, Quarter}
 use Rattle.builder.proofs.Runs.{fetch_at, fetch_length, fetch_before, fetch_stored, put_before, put_past}
 

@@ -268,26 +268,25 @@ staged_then {f} {g} s t =
 pub staged_as : {f g : List ℕ → List ℕ} {c d : Canvas} → Staged f c d → f (bytes_of c) ≡ g (bytes_of c) → Staged g c d
 staged_as s e = record { bytes = s.bytes ∙ e; frame_long = s.frame_long; spill_long = s.spill_long; frame_name = s.frame_name; spill_name = s.spill_name }
 
--- what a loop over rows, planes or levels knows at its head, of canvas and scratch
-pub record Passed (step : ℕ → List ℕ → List ℕ) (c₀ : Canvas) (X₀ : List ℕ) (c : Canvas) (X : List ℕ) (h y : ℕ) : Type 0 where
+-- what a loop over rows, planes or levels knows at its head
+pub record Passed (step : ℕ → List ℕ → List ℕ) (c₀ c : Canvas) (h y : ℕ) : Type 0 where
   pub most : y ≤ h
   pub staged : Staged (steps step y) c₀ c
-  pub scratch : length X ≡ length X₀
 
-pub passed_none : {step : ℕ → List ℕ → List ℕ} {c : Canvas} {X : List ℕ} {h : ℕ} → Passed step c X c X h 0
+pub passed_none : {step : ℕ → List ℕ → List ℕ} {c : Canvas} {h : ℕ} → Passed step c c h 0
 unfolding steps
-passed_none = record { most = omega arith; staged = staged_none; scratch = refl }
+passed_none = record { most = omega arith; staged = staged_none }
 
-pub passed_more : {step : ℕ → List ℕ → List ℕ} {c₀ c c' : Canvas} {X₀ X X' : List ℕ} {h y : ℕ} → Passed step c₀ X₀ c X h y → y < h → length X' ≡ length X → Staged (step y) c c' → Passed step c₀ X₀ c' X' h (y + 1)
-passed_more {step} {c₀} {y = y} w lt ex s =
-    record { most = omega arith; staged = staged_as (staged_then w.staged s) (sym (steps_next step y (bytes_of c₀))); scratch = ex ∙ w.scratch }
+pub passed_more : {step : ℕ → List ℕ → List ℕ} {c₀ c c' : Canvas} {h y : ℕ} → Passed step c₀ c h y → y < h → Staged (step y) c c' → Passed step c₀ c' h (y + 1)
+passed_more {step} {c₀} {y = y} w lt s =
+    record { most = omega arith; staged = staged_as (staged_then w.staged s) (sym (steps_next step y (bytes_of c₀))) }
 
 -- a loop that counts from 1
-pub passed_next : (step : ℕ → List ℕ → List ℕ) {c₀ c c' : Canvas} {X₀ X X' : List ℕ} {h y : ℕ} → 1 ≤ y → Passed (λ i. step (i + 1)) c₀ X₀ c X (h - 1) (y - 1) → y < h → length X' ≡ length X → Staged (step y) c c' → Passed (λ i. step (i + 1)) c₀ X₀ c' X' (h - 1) (y + 1 - 1)
-passed_next step {c₀} {c} {c'} {X₀} {X} {X'} {h} {y} some w lt ex s =
+pub passed_next : (step : ℕ → List ℕ → List ℕ) {c₀ c c' : Canvas} {h y : ℕ} → 1 ≤ y → Passed (λ i. step (i + 1)) c₀ c (h - 1) (y - 1) → y < h → Staged (step y) c c' → Passed (λ i. step (i + 1)) c₀ c' (h - 1) (y + 1 - 1)
+passed_next step {c₀} {c} {c'} {h} {y} some w lt s =
     let here : y ≡ y - 1 + 1 = omega arith in
     let next : y - 1 + 1 ≡ y + 1 - 1 = omega arith in
-    subst (λ (k : ℕ). Passed (λ i. step (i + 1)) c₀ X₀ c' X' (h - 1) k) next (passed_more w (omega arith) ex (subst (λ (k : ℕ). Staged (step k) c c') here s))
+    subst (λ (k : ℕ). Passed (λ i. step (i + 1)) c₀ c' (h - 1) k) next (passed_more w (omega arith) (subst (λ (k : ℕ). Staged (step k) c c') here s))
 
-pub passed_whole : {step : ℕ → List ℕ → List ℕ} {c₀ c : Canvas} {X₀ X : List ℕ} {h y : ℕ} → Passed step c₀ X₀ c X h y → h ≤ y → Staged (steps step h) c₀ c
+pub passed_whole : {step : ℕ → List ℕ → List ℕ} {c₀ c : Canvas} {h y : ℕ} → Passed step c₀ c h y → h ≤ y → Staged (steps step h) c₀ c
 passed_whole {step} {c₀} {c} {h = h} {y = y} w le = let e : y ≡ h = omega arith in subst (λ (k : ℕ). Staged (steps step k) c₀ c) e w.staged

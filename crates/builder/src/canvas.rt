@@ -1,12 +1,13 @@
 // The canvas: a frame and, past its end, the lent spill, as one run of bytes. Reading past both gives 0.
 // Reading, a part that is a window on it, and storing. Each run is cut once, where the frame ends, and no byte is tested by itself.
+// `read` and `fetch` cut alike and stay two: what comes after the cut, zeros or the spill, would be a closure, whose contract would be all of theirs.
 ghost use Rattle.std.specs.Prelude.{◌≡◌, cond, ◌++◌, ◌+◌, ◌-◌, ◌≤◌, length, replicate, leb};
 ghost use Rattle.layouts.specs.Storing.{put, part_at, part_at_mut};
 ghost use Rattle.builder.specs.Canvas.{fetch, bytes_of, Staged};
 
 use filters::rows::{copy_row, zero_row};
 
-// Contracts see the two slices, and of a stage that it leaves them where they are (`Staged`).
+// Contracts see both slices, and of a stage that these stay the ones that were lent (`Staged`). No `impl Model`: behind it who lent them would not know what they hold after.
 #[derive(Drop)]
 pub struct Canvas<'a> {
     pub frame: &'a mut [u8],

@@ -263,12 +263,7 @@ impl Interp {
         }
     }
 
-    fn mean_at_once(
-        self,
-        frame: &mut [u8],
-        scratch: &mut [u8],
-        at: HalfPlanes,
-    )
+    fn mean_at_once(self, frame: &mut [u8], scratch: &mut [u8], at: HalfPlanes)
         requires { (Tight self) × (Planes (at.diagonal + 1) (length frame.old) (length scratch.old) self) }
         ensures { frame.new ≡ mean_planes self at.horizontal at.vertical at.diagonal frame.old }
     {
@@ -281,12 +276,7 @@ impl Interp {
     }
 
     #[tactic(auto, unfolding(crate::specs::Refining::mean_planes))]
-    fn mean_in_turn(
-        self,
-        canvas: &mut Canvas,
-        scratch: &mut [u8],
-        at: HalfPlanes,
-    )
+    fn mean_in_turn(self, canvas: &mut Canvas, scratch: &mut [u8], at: HalfPlanes)
         requires { (Planes (at.diagonal + 1) (length canvas.old.frame.now) (length scratch.old) self) × (16 ≤ length canvas.old.spill.now) }
         ensures { Staged (mean_planes self at.horizontal at.vertical at.diagonal) canvas.old canvas.new }
     {
@@ -297,12 +287,7 @@ impl Interp {
     }
 
     // At once where the chunks of rows lie end to end, a plane is whole blocks, and what a block reads, up to a row and a byte further on, lies before the block of the next plane; else in turn.
-    fn mean_planes(
-        self,
-        canvas: &mut Canvas,
-        scratch: &mut [u8],
-        at: HalfPlanes,
-    )
+    fn mean_planes(self, canvas: &mut Canvas, scratch: &mut [u8], at: HalfPlanes)
         requires { (Planes (at.diagonal + 1) (length canvas.old.frame.now) (length scratch.old) self) × (16 ≤ length canvas.old.spill.now) }
         ensures { Staged (mean_planes self at.horizontal at.vertical at.diagonal) canvas.old canvas.new }
     {
@@ -318,13 +303,7 @@ impl Interp {
     }
 
     #[tactic(auto, unfolding(crate::specs::Refining::kernel_planes))]
-    fn kernel_planes(
-        self,
-        kernel: HalfPel,
-        frame: &mut [u8],
-        scratch: &mut [u8],
-        at: HalfPlanes,
-    )
+    fn kernel_planes(self, kernel: HalfPel, frame: &mut [u8], scratch: &mut [u8], at: HalfPlanes)
         requires { Planes (at.diagonal + 1) (length frame.old) (length scratch.old) self }
         ensures { frame.new ≡ kernel_planes kernel self at.horizontal at.vertical at.diagonal frame.old }
     {
@@ -338,22 +317,13 @@ impl Interp {
 
     // The planes at half places, by their numbers.
     #[tactic(auto, unfolding(crate::specs::Refining::half_planes))]
-    fn half_planes(
-        self,
-        canvas: &mut Canvas,
-        scratch: &mut [u8],
-        upscale: Upscale,
-        at: HalfPlanes,
-    )
+    fn half_planes(self, canvas: &mut Canvas, scratch: &mut [u8], upscale: Upscale, at: HalfPlanes)
         requires { (Planes (at.diagonal + 1) (length canvas.old.frame.now) (length scratch.old) self) × (16 ≤ length canvas.old.spill.now) }
         ensures { Staged (half_planes upscale self at.horizontal at.vertical at.diagonal) canvas.old canvas.new }
     {
         match upscale {
             Upscale::Means => self.mean_planes(canvas, scratch, at),
-            Upscale::Kernel(kernel) => self.kernel_planes(
-                kernel,
-                canvas.frame,
-                scratch, at),
+            Upscale::Kernel(kernel) => self.kernel_planes(kernel, canvas.frame, scratch, at),
         }
     }
 }
@@ -452,9 +422,9 @@ fn quarter(canvas: &mut Canvas, scratch: &mut [u8], i: Interp, pair: Pair)
     ensures { Staged (quarter i pair) canvas.old canvas.new }
 {
     let part = Interp {
-        pitch: i.pitch,
         width: i.width - pair.across,
         height: i.height - pair.below,
+        ..i
     };
     let target = i.plane(pair.target);
     let left = i.plane(pair.left) + pair.across + pair.below * i.pitch;

@@ -1,4 +1,5 @@
 // One row of a later level before it is halved: from the rows of its source around it, with open-svpflow's edges and, for the generic cubic, the columns past its whole eights.
+// `s` and `src_pitch` stay two parameters: of a struct by value with a reference in it, each clause would say `rows.entry.bytes.now` for `s.now`.
 // First the columns by rows alone; then the others; last the row.
 ghost use Rattle.std.specs.Prelude.{◌≡◌, ◌+◌, ◌*◌, ◌≤◌, ◌<◌, length};
 ghost use Rattle.filters.specs.Halve.{last_row};

@@ -1,10 +1,18 @@
--- One outcome: no second answer, row, frame, spill or scratch meets the contract of a public call (`OneOutcome`), by one law (`determined`). The calls of `settings` and `longhands`, proved there, are named among the imports; then come the rows of `filters`, the inner calls of `settings`, `layouts`, `stored`, `lookups` and `builder`, and last the public calls of `stored`, `lookups` and `planes`, `build_plane` by the inner call that it makes. docs/EXCEPTIONS.md has those that aren't here. Assumes nothing.
+-- One outcome: no second answer, row, frame, spill or scratch meets the contract of a public call (`OneOutcome`), by one law (`determined`). The calls of `settings` and `longhands`, and `view` of `stored`, proved there, are named among the imports; then come the rows of `filters`, the inner calls of `settings`, `layouts`, `stored`, `lookups` and `builder`, and last the public calls of `stored`, `lookups` and `planes`, `build_plane` by the inner call that it makes. docs/EXCEPTIONS.md has those that aren't here. Assumes nothing.
 use Rattle.std.specs.Prelude.{Result, ⊤}
+use mathlib.Core.Path.{◌≡◌, refl, ap}
 use mathlib.Core.Bool.{true}
 use mathlib.Core.List.{List}
 use Prim.Native.Nat.{ℕ}
 use contract.Lifetimes.{Lfts}
 use Rattle.settings.specs.declared.refusal.Refusal.{Refusal}
+use Rattle.layouts.specs.declared.fitting.Fitting.{Fitting}
+use Rattle.layouts.specs.declared.descent.Descent.{Descent}
+use Rattle.layouts.specs.declared.layout.Layout.{Layout}
+use Rattle.layouts.specs.declared.layout.Region.{Region}
+use Rattle.layouts.specs.declared.level.Level.{Level}
+use Rattle.layouts.specs.Fitting.{plainly as fitting_told}
+use Rattle.stored.specs.Passed.{plainly as stored_told}
 use Rattle.settings.proofs.Outcome.{OneOutcome, determined, itself}
 use Rattle.settings.proofs.Known.{tested_known, outcome_known}
 use Rattle.filters.proofs.rows.mean.Reads as mean_reads
@@ -41,26 +49,33 @@ use Rattle.settings.proofs.record.Accepted.super_height.Reads as accepted_height
 use Rattle.settings.proofs.record.Accepted.super_width.Reads as accepted_width_reads
 use Rattle.layouts.proofs.levels.width.Reads as width_reads
 use Rattle.layouts.proofs.levels.height.Reads as height_reads
-use Rattle.layouts.proofs.levels.offset.Reads as offset_reads
-use Rattle.layouts.proofs.lent.spill_need.Reads as spill_need_reads
-use Rattle.layouts.proofs.lent.source_need.Reads as source_need_reads
-use Rattle.layouts.proofs.lent.scratch_need.Reads as scratch_need_reads
+use Rattle.layouts.proofs.fitting.Fitting.offset.Reads as offset_reads
+use Rattle.layouts.proofs.fitting.Fitting.spill_need.Reads as spill_need_reads
+use Rattle.layouts.proofs.fitting.Fitting.source_need.Reads as source_need_reads
+use Rattle.layouts.proofs.fitting.Fitting.scratch_need.Reads as scratch_need_reads
 use Rattle.lookups.proofs.lent.build_tested.Reads as build_tested_reads
 use Rattle.layouts.proofs.levels.least_pitch.Reads as least_pitch_reads
 use Rattle.layouts.proofs.levels.bad_pitch.Reads as bad_pitch_reads
-use Rattle.layouts.proofs.rows.row_in.Reads as row_in_reads
+use Rattle.layouts.proofs.fitting.Fitting.row_in.Reads as row_in_reads
 use Rattle.layouts.proofs.rows.hand_out.Reads as hand_out_reads
 use Rattle.layouts.proofs.levels.stored.Reads as stored_reads
-use Rattle.layouts.proofs.rows.placed_at.Reads as placed_at_reads
-use Rattle.layouts.proofs.margins.fuses.Reads as fuses_reads
-use Rattle.layouts.proofs.margins.clear_level.Reads as clear_level_reads
-use Rattle.layouts.proofs.lent.lent_tested.Reads as lent_tested_reads
+use Rattle.layouts.proofs.level.Level.row.Reads as level_row_reads
+use Rattle.layouts.proofs.level.Later.fuses.Reads as fuses_reads
+use Rattle.layouts.proofs.level.Later.clear.Reads as clear_level_reads
+use Rattle.layouts.proofs.fitting.Fitting.lent_tested.Reads as lent_tested_reads
 use Rattle.layouts.proofs.levels.tested.Reads as layout_tested_reads
 use Rattle.layouts.proofs.descent.Descent.top.Reads as descent_top_reads
 use Rattle.layouts.proofs.descent.Descent.next.Reads as descent_next_reads
 use Rattle.layouts.proofs.descent.Descent.down.Reads as descent_down_reads
+use Rattle.layouts.proofs.descent.Descent.here.Reads as descent_here_reads
+use Rattle.layouts.proofs.level.Level.end.Reads as level_end_reads
+use Rattle.layouts.proofs.fitting.Fitting.of.Reads as fitting_of_reads
+use Rattle.stored.proofs.passed.Stored.of.Reads as stored_of_reads
+use Rattle.stored.proofs.passed.Stored.layout.Reads as stored_layout_reads
+use Rattle.stored.proofs.passed.Stored.levels.Reads as stored_levels_reads
+use Rattle.stored.proofs.passed.Stored.level.Reads as stored_level_reads
+use Rattle.stored.proofs.passed.Stored.end.Reads as stored_end_reads
 use Rattle.layouts.proofs.descent.Descent.region.Reads as descent_region_reads
-use Rattle.stored.proofs.layout.view.Reads as view_reads
 use Rattle.stored.proofs.layout.region_in.Reads as region_in_reads
 use Rattle.stored.proofs.layout.tested.Reads as stored_tested_reads
 use Rattle.stored.proofs.layout.change.Reads as change_reads
@@ -73,6 +88,7 @@ use Rattle.planes.proofs.build.build_plane.Reads as build_plane_reads
 use Rattle.planes.proofs.build.build_plane_by.Reads as build_plane_by_reads
 pub use Rattle.settings.proofs.Unique.{from_opt_unique, accepted_unique, as_accepted_unique, pack_data_unique, super_height_unique, super_width_unique, read_word_unique, prepare_alike_unique, reduce_dim_unique, naturals_unique, number_unique, refuse_if_unique, natural_unique, bit_unique, to_bits_unique, from_bits_unique}
 pub use Rattle.longhands.proofs.Unique.{read_longhand_unique, write_longhand_unique}
+pub use Rattle.stored.proofs.Unique.{view_unique}
 
 -- ---- the rows of `filters`
 pub mean_unique : (κs : Lfts 0) → OneOutcome (mean_reads.Post κs) (λ r e. r)
@@ -172,13 +188,13 @@ hand_out_unique κs x r s e f p q = rw (determined itself p.0 q.0, determined it
 pub stored_unique : (κs : Lfts 0) → OneOutcome (stored_reads.Post κs) (λ r e. r)
 stored_unique κs x r s e f p q = determined itself p q
 
-pub placed_at_unique : (κs : Lfts 0) → OneOutcome (placed_at_reads.Post κs) (λ r e. r)
-placed_at_unique κs x r s e f p q = determined (outcome_known no_run) p q
+pub level_row_unique : (κs : Lfts 0) → OneOutcome (level_row_reads.Post κs) (λ r e. r)
+level_row_unique κs x r s e f p q = determined (outcome_known no_run) p q
 
 pub fuses_unique : (κs : Lfts 0) → OneOutcome (fuses_reads.Post κs) (λ r e. r)
 fuses_unique κs x r s e f p q = determined itself p q
 
-pub clear_level_unique : (κs : Lfts 1) → OneOutcome (clear_level_reads.Post κs) (λ r e. e.0.now)
+pub clear_level_unique : (κs : Lfts 1) → OneOutcome (clear_level_reads.Post κs) (λ r e. e.1.0.now)
 clear_level_unique κs x r s e f p q = determined itself p q
 
 pub lent_tested_unique : (κs : Lfts 0) → OneOutcome (lent_tested_reads.Post κs) (λ r e. r)
@@ -187,20 +203,57 @@ lent_tested_unique κs x r s e f p q = determined tested_known p q
 pub layout_tested_unique : (κs : Lfts 0) → OneOutcome (layout_tested_reads.Post κs) (λ r e. r)
 layout_tested_unique κs x r s e f p q = determined tested_known p q
 
-pub descent_top_unique : (κs : Lfts 0) → OneOutcome (descent_top_reads.Post κs) (λ r e. r)
-descent_top_unique κs x r s e f p q = determined itself p q
+-- all that a level tells
+abbrev told : Level → Layout × ℕ × Region
+told t = (t.layout.layout, t.level, t.region)
 
-pub descent_next_unique : (κs : Lfts 0) → OneOutcome (descent_next_reads.Post κs) (λ r e. r)
-descent_next_unique κs x r s e f p q = determined itself p q
+level_alike : (t u : Level) → t.layout.layout ≡ u.layout.layout → t.level ≡ u.level → told t ≡ told u
+level_alike t u a b = rw (t.lies, u.lies, a, b) refl
 
-pub descent_down_unique : (κs : Lfts 0) → OneOutcome (descent_down_reads.Post κs) (λ r e. r)
-descent_down_unique κs x r s e f p q = determined itself p q
+-- all that a walk carries
+abbrev reached : Descent → Fitting × ℕ × ℕ × ℕ × ℕ
+reached d = (d.layout, d.level, d.offset, d.width, d.height)
+
+alike : (d e : Descent) → d.layout ≡ e.layout → d.level ≡ e.level → reached d ≡ reached e
+alike d e a b = rw (d.place, d.sides.0, d.sides.1, e.place, e.sides.0, e.sides.1, a, b) refl
+
+pub descent_top_unique : (κs : Lfts 0) → OneOutcome (descent_top_reads.Post κs) (λ r e. reached r)
+descent_top_unique κs x r s e f p q = alike r s (determined itself p.0 q.0) (determined itself p.1 q.1)
+
+pub descent_next_unique : (κs : Lfts 0) → OneOutcome (descent_next_reads.Post κs) (λ r e. reached r)
+descent_next_unique κs x r s e f p q = alike r s (determined itself p.0 q.0) (determined itself p.1 q.1)
+
+pub descent_down_unique : (κs : Lfts 0) → OneOutcome (descent_down_reads.Post κs) (λ r e. reached r)
+descent_down_unique κs x r s e f p q = alike r s (determined itself p.0 q.0) (determined itself p.1 q.1)
 
 pub descent_region_unique : (κs : Lfts 0) → OneOutcome (descent_region_reads.Post κs) (λ r e. r)
 descent_region_unique κs x r s e f p q = determined itself p q
 
-pub view_unique : (κs : Lfts 1) → OneOutcome (view_reads.Post κs) (λ r e. r)
-view_unique κs x r s e f p q = determined itself p q
+pub descent_here_unique : (κs : Lfts 0) → OneOutcome (descent_here_reads.Post κs) (λ r e. told r)
+descent_here_unique κs x r s e f p q = level_alike r s (ap (λ (t : Fitting). t.layout) (determined itself p.0 q.0)) (determined itself p.1 q.1)
+
+pub level_end_unique : (κs : Lfts 0) → OneOutcome (level_end_reads.Post κs) (λ r e. r)
+level_end_unique κs x r s e f p q = determined itself p q
+
+-- the layout itself, or its refusal
+pub fitting_of_unique : (κs : Lfts 0) → OneOutcome (fitting_of_reads.Post κs) (λ r e. fitting_told r)
+fitting_of_unique κs x r s e f p q = determined (outcome_known _) p q
+
+-- the record and the numbers themselves, or their refusal
+pub stored_of_unique : (κs : Lfts 1) → OneOutcome (stored_of_reads.Post κs) (λ r e. stored_told r)
+stored_of_unique κs x r s e f p q = determined (outcome_known _) p q
+
+pub stored_layout_unique : (κs : Lfts 1) → OneOutcome (stored_layout_reads.Post κs) (λ r e. r.layout)
+stored_layout_unique κs x r s e f p q = determined itself p q
+
+pub stored_levels_unique : (κs : Lfts 1) → OneOutcome (stored_levels_reads.Post κs) (λ r e. r)
+stored_levels_unique κs x r s e f p q = determined itself p q
+
+pub stored_level_unique : (κs : Lfts 1) → OneOutcome (stored_level_reads.Post κs) (λ r e. told r)
+stored_level_unique κs x r s e f p q = level_alike r s (determined itself p.0 q.0) (determined itself p.1 q.1)
+
+pub stored_end_unique : (κs : Lfts 1) → OneOutcome (stored_end_reads.Post κs) (λ r e. r)
+stored_end_unique κs x r s e f p q = determined itself p q
 
 pub region_in_unique : (κs : Lfts 1) → OneOutcome (region_in_reads.Post κs) (λ r e. r)
 region_in_unique κs x r s e f p q = determined itself p q

@@ -87,7 +87,7 @@ fn has_view(numbers: &[usize]) -> bool
 }
 
 // What settles it, with the record that stands beside it.
-pub fn view(opts: SuperOpts, numbers: &[usize]) -> Layout
+pub(crate) fn view(opts: SuperOpts, numbers: &[usize]) -> Layout
     requires { has_view numbers.now ≡ true }
     ensures { result ≡ view_of opts numbers.now }
 {

@@ -1,7 +1,5 @@
 -- `reduce_cubic` meets its contract. The loop has stored the rows passed. Assumes nothing.
-use mathlib.Core.Path.{◌≡◌}
 use Prim.Native.Nat.{◌+◌, ◌*◌}
-use lib.ListN.{length}
 use Rattle.filters.specs.declared.halving.ReduceFilter.TheVariants.{Cubic}
 use Rattle.layouts.specs.Storing.{put}
 use Rattle.layouts.proofs.Loops.{Walked}
@@ -9,4 +7,4 @@ use Rattle.builder.specs.Halving.{vertical_line, fused_line}
 use Rattle.builder.proofs.halving.reduce_cubic.Given as goal
 
 abbrev pub invariant-loop-y : goal.invariant-loop-y
-invariant-loop-y l = Walked (λ i d. put d (l.target.offset + i * l.pitch) (fused_line l.pitch l.target.width (vertical_line Cubic (2 * l.target.width) (2 * l.target.width) l.target.height d l.base l.pitch i))) l.initial.frame l.frame l.height l.y × (length l.scratch ≡ length l.initial.scratch)
+invariant-loop-y l = Walked (λ i d. put d (l.target.offset + i * l.pitch) (fused_line l.pitch l.target.width (vertical_line Cubic (2 * l.target.width) (2 * l.target.width) l.target.height d l.base l.pitch i))) l.initial.frame l.frame l.height l.y

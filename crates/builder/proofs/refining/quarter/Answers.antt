@@ -1,7 +1,5 @@
 -- `quarter` meets its contract. Assumes nothing.
-use Rattle.builder.specs.Canvas.{bytes_of}
-use Rattle.builder.proofs.Runs.{staged_as}
-use Rattle.builder.proofs.Refined.{quarter_fits, quarter_made}
+use Rattle.builder.proofs.Refined.{quarter_fits}
 use Rattle.builder.proofs.refining.quarter.Goals as goal
 
 pub pair-requires : goal.pair-requires

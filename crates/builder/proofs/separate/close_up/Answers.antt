@@ -1,9 +1,7 @@
-use mathlib.Core.Path.{refl}
 use Prim.Native.Nat.{◌+◌, ◌*◌}
 use native.Mathlib.Omega.{arith}
 use Rattle.builder.specs.Canvas.{copy_run}
-use Rattle.builder.specs.Halving.{close_up}
-use Rattle.builder.proofs.Runs.{passed_none, passed_next, passed_whole, staged_as}
+use Rattle.builder.proofs.Runs.{passed_none, passed_next}
 use Rattle.builder.proofs.separate.close_up.Goals as goal
 
 pub loop-y-init : goal.loop-y-init
@@ -14,4 +12,4 @@ loop-y-preserved c =
     let a = c.args in
     let l = c.loop-y in
     let r = c.close_row in
-    (omega arith, passed_next (λ y. copy_run (a.target.offset + y * (2 * a.pitch)) (a.target.offset + y * a.pitch) a.pitch) l.invariant.0 l.invariant.1 c.loop-y-test.true r.auto.scratch r.ensures)
+    (omega arith, passed_next (λ y. copy_run (a.target.offset + y * (2 * a.pitch)) (a.target.offset + y * a.pitch) a.pitch) l.invariant.0 l.invariant.1 c.loop-y-test.true r.ensures)

@@ -1,10 +1,8 @@
-use mathlib.Core.Path.{refl}
-use Rattle.builder.specs.Halving.{vertical_rows}
-use Rattle.builder.proofs.Runs.{passed_none, passed_more, passed_whole, staged_as}
+use Rattle.builder.proofs.Runs.{passed_none, passed_more}
 use Rattle.builder.proofs.separate.spread_vertical.Goals as goal
 
 pub loop-y-init : goal.loop-y-init
 loop-y-init c = passed_none
 
 pub loop-y-preserved : goal.loop-y-preserved
-loop-y-preserved c = let r = c.spread_vertical_row in passed_more c.loop-y.invariant c.loop-y-test.true r.auto.scratch r.ensures
+loop-y-preserved c = let r = c.spread_vertical_row in passed_more c.loop-y.invariant c.loop-y-test.true r.ensures

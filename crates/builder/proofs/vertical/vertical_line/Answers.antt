@@ -1,8 +1,6 @@
 -- `vertical_line` meets its contract. Assumes nothing.
 use mathlib.Core.Path.{sym, ◌∙◌}
-use lib.ListN.{length}
-use Rattle.builder.specs.Halving.{whole_of}
-use Rattle.builder.proofs.Lines.{inner_reach, line_edge, line_inner}
+use Rattle.builder.proofs.Lines.{inner_reach}
 use Rattle.builder.proofs.vertical.vertical_line.Goals as goal
 
 pub inner_line-requires : goal.inner_line-requires

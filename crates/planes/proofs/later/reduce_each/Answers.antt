@@ -42,7 +42,7 @@ loop-level-preserved c =
     let r = c.reduce in
     let same = c.next-at.ensures.0 ∙ l.invariant.2 in (
       omega arith,
-      passed_next (level_by a.fuse a.fitting.layout a.src.now a.src_pitch (length a.canvas.now.frame.now) a.filter) l.invariant.0 l.invariant.1 c.loop-level-test.true r.auto.scratch
+      passed_next (level_by a.fuse a.fitting.layout a.src.now a.src_pitch (length a.canvas.now.frame.now) a.filter) l.invariant.0 l.invariant.1 c.loop-level-test.true
           (staged_as r.ensures (ap₂ (λ (x : Fitting) (n : ℕ). level_by a.fuse x.layout a.src.now a.src_pitch (length l.canvas.frame.now) a.filter n (bytes_of l.canvas)) (c.here.ensures.0 ∙ same) (omega (arith, l.invariant.0, l.invariant.3, c.next-at.ensures.1, c.here.ensures.1)) ∙ ap (λ (k : ℕ). level_by a.fuse a.fitting.layout a.src.now a.src_pitch k a.filter l.level (bytes_of l.canvas)) l.invariant.1.staged.frame_long)),
       same,
       omega (arith, l.invariant.0, l.invariant.3, c.next-at.ensures.1),

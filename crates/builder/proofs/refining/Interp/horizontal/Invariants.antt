@@ -1,7 +1,5 @@
 -- `horizontal` meets its contract. The loop has made the rows passed. Assumes nothing.
-use mathlib.Core.Path.{◌≡◌}
 use Prim.Native.Nat.{◌+◌, ◌*◌}
-use lib.ListN.{length}
 use Rattle.filters.specs.Refine.{half_horizontal}
 use Rattle.layouts.specs.Storing.{put}
 use Rattle.layouts.proofs.Loops.{Walked}
@@ -9,4 +7,4 @@ use Rattle.builder.specs.Canvas.{fetch}
 use Rattle.builder.proofs.refining.Interp.horizontal.Given as goal
 
 abbrev pub invariant-loop-y : goal.invariant-loop-y
-invariant-loop-y l = Walked (λ k d. put d (l.t + k * l.self.pitch) (half_horizontal l.kernel l.self.width (fetch d (l.s + k * l.self.pitch) l.self.width))) l.initial.frame l.frame l.height l.y × (length l.scratch ≡ length l.initial.scratch)
+invariant-loop-y l = Walked (λ k d. put d (l.t + k * l.self.pitch) (half_horizontal l.kernel l.self.width (fetch d (l.s + k * l.self.pitch) l.self.width))) l.initial.frame l.frame l.height l.y

@@ -1,6 +1,6 @@
 -- `kernel_planes` meets its contract. Assumes nothing.
 use native.Mathlib.Omega.{arith}
-use Rattle.builder.proofs.Refined.{horizontal_fits, kernel_stages}
+use Rattle.builder.proofs.Refined.{horizontal_fits}
 use Rattle.builder.proofs.refining.Interp.kernel_planes.Goals as goal
 
 pub horizontal-requires : goal.horizontal-requires

@@ -1,10 +1,8 @@
-use mathlib.Core.Path.{refl, ◌∙◌}
-use Rattle.layouts.proofs.Loops.{walked_none, walked_more, walked_whole}
-use Rattle.builder.specs.Refining.{vertical_plane}
+use Rattle.layouts.proofs.Loops.{walked_none, walked_more}
 use Rattle.builder.proofs.refining.Interp.vertical.Goals as goal
 
 pub loop-y-init : goal.loop-y-init
-loop-y-init c = (walked_none, refl)
+loop-y-init c = walked_none
 
 pub loop-y-preserved : goal.loop-y-preserved
-loop-y-preserved c = (walked_more c.loop-y.invariant.0 c.loop-y-test.true c.vertical_row.auto.frame c.vertical_row.ensures, c.vertical_row.auto.scratch ∙ c.loop-y.invariant.1)
+loop-y-preserved c = walked_more c.loop-y.invariant c.loop-y-test.true c.vertical_row.auto.frame c.vertical_row.ensures

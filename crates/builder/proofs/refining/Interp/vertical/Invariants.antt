@@ -1,11 +1,9 @@
 -- `vertical` meets its contract. The loop has made the rows passed. Assumes nothing.
-use mathlib.Core.Path.{◌≡◌}
 use Prim.Native.Nat.{◌+◌, ◌*◌}
-use lib.ListN.{length}
 use Rattle.layouts.specs.Storing.{put}
 use Rattle.layouts.proofs.Loops.{Walked}
 use Rattle.builder.specs.Refining.{vertical_run}
 use Rattle.builder.proofs.refining.Interp.vertical.Given as goal
 
 abbrev pub invariant-loop-y : goal.invariant-loop-y
-invariant-loop-y l = Walked (λ k d. put d (l.t + k * l.self.pitch) (vertical_run l.kernel l.self l.s k d)) l.initial.frame l.frame l.height l.y × (length l.scratch ≡ length l.initial.scratch)
+invariant-loop-y l = Walked (λ k d. put d (l.t + k * l.self.pitch) (vertical_run l.kernel l.self l.s k d)) l.initial.frame l.frame l.height l.y
