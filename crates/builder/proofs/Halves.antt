@@ -107,6 +107,3 @@ source_within {p = p} {t = t} w e = record { rows = omega (arith, w.source, w.ta
 -- and before it is halved, in the frame and in scratch
 pub halves_within : {len scratch base p : ℕ} {t : Region} {y : ℕ} → Within len scratch base p t → y < t.height → t.offset + y * p + 2 * t.width ≤ len
 halves_within w lt = omega (arith, row_within w lt, w.fits)
-
-pub line_within : {len scratch base p : ℕ} {t : Region} → Within len scratch base p t → 2 * t.width + 2 ≤ scratch
-line_within w = omega (arith, w.fits, w.room)

@@ -187,11 +187,6 @@ pel_four known not-two = ⊎_elim (λ e. absurd (not-two e)) (λ e. e) known
 pub planes_at : {pel m len scratch : ℕ} {i : Interp} → pel ≡ m → Planes (pel * pel) len scratch i → Planes (m * m) len scratch i
 planes_at {pel} {m} {len} {scratch} {i} e P = subst (λ (k : ℕ). Planes (k * k) len scratch i) e P
 
--- ---- the stages one after the other
-pub kernel_stages : (k : HalfPel) (i : Interp) (a b d A B D : ℕ) → A ≡ plane_at i a → B ≡ plane_at i b → D ≡ plane_at i d → (c c1 c2 c3 : List ℕ) → c1 ≡ horizontal_plane k i A 0 c → c2 ≡ vertical_plane k i B 0 c1 → c3 ≡ horizontal_plane k i D B c2 → c3 ≡ kernel_planes k i a b d c
-unfolding kernel_planes
-kernel_stages k i a b d A B D ea eb ed c c1 c2 c3 e1 e2 e3 = rw (e3, e2, e1, ea, eb, ed)
-
 -- ---- the pairs between the planes at half places
 abbrev pub cut : Interp → Pair → Interp
 cut i q = record { pitch = i.pitch; width = i.width - q.across; height = i.height - q.below }
@@ -214,10 +209,6 @@ quarter_fits {len} {scratch} {i} {q} spill T L R P Q beyond eT eL eR =
       beyond = beyond;
       room = P.room;
     }
-
-pub quarter_made : (i : Interp) (q : Pair) (T L R : ℕ) (c : List ℕ) → T ≡ plane_at i q.target → L ≡ plane_at i q.left → R ≡ plane_at i q.right → pair_plane (cut i q) T (L + q.across + q.below * i.pitch) R c ≡ quarter i q c
-unfolding quarter
-quarter_made i q T L R c eT eL eR = rw (eT, eL, eR)
 
 -- a test of each pair of a table
 abbrev pub every : (Pair → Bool) → List Pair → Bool

@@ -89,10 +89,7 @@ pub(crate) fn window<'a>(
     ensures { (result.now ≡ fetch (frame.now ++ spill.now) start n) × (length result.now ≡ n) × (result.ref_ptr ≡ cond (leb (start + n) (length frame.now)) (part_at frame.entry start) (part_at_mut scratch.entry 0)) }
 {
     let len = frame.len();
-    if len < start {
-        return fetched(frame, spill, scratch, start, n);
-    }
-    if len - start < n {
+    if len < start || len - start < n {
         return fetched(frame, spill, scratch, start, n);
     }
     span(frame, start, n)
@@ -124,6 +121,7 @@ impl Canvas<'_> {
     }
 
     // What lies past the frame goes to the spill.
+    #[tactic(auto, using(crate::proofs::Runs::put_left, crate::proofs::Runs::put_right, crate::proofs::Runs::store_cut))]
     pub(crate) fn store(&mut self, start: usize, row: &[u8])
         requires { start + length row.now ≤ length self.old.frame.now + length self.old.spill.now }
         ensures { Staged (λ c. put c start row.now) self.old self.new }

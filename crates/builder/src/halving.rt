@@ -69,8 +69,7 @@ fn vertical_rows(
     requires { Within (length frame.old) (length scratch.old) base pitch target }
     ensures { frame.new ≡ vertical_rows filter (λ d. d) base pitch target pitch frame.old }
 {
-    let height = target.height;
-    for y in 0..height {
+    for y in 0..target.height {
         vertical_row(filter, frame, scratch, base, pitch, target, y);
     }
 }
@@ -86,8 +85,7 @@ fn horizontal_rows(
     requires { (1 ≤ target.width) × (2 * target.width ≤ pitch) × (target.offset + target.height * pitch ≤ length frame.old) × (2 * target.width + 2 ≤ length scratch.old) }
     ensures { frame.new ≡ horizontal_rows filter target pitch frame.old }
 {
-    let height = target.height;
-    for y in 0..height {
+    for y in 0..target.height {
         let at = target.offset + y * pitch;
         let w = target.width;
         finish_row(filter, frame, scratch, at, w, at + 2 * w);
@@ -138,8 +136,7 @@ pub fn reduce_cubic(frame: &mut [u8], scratch: &mut [u8], base: usize, pitch: us
     requires { Within (length frame.old) (length scratch.old) base pitch target × (whole_of Cubic (2 * target.width) ≡ 2 * target.width) }
     ensures { frame.new ≡ fused base pitch target frame.old }
 {
-    let height = target.height;
-    for y in 0..height {
+    for y in 0..target.height {
         fused_row(frame, scratch, base, pitch, target, y);
     }
 }

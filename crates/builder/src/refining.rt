@@ -139,8 +139,7 @@ impl Interp {
         ensures { Staged (pair_plane self t l r) canvas.old canvas.new }
     {
         let n = chunked(self.width);
-        let height = self.height;
-        for y in 0..height {
+        for y in 0..self.height {
             let row = y * self.pitch;
             pair_row(canvas, scratch, t + row, l + row, r + row, n);
         }
@@ -177,8 +176,7 @@ impl Interp {
         requires { OnePlane (length frame.old) (length scratch.old) self.height self t s }
         ensures { frame.new ≡ horizontal_plane kernel self t s frame.old }
     {
-        let height = self.height;
-        for y in 0..height {
+        for y in 0..self.height {
             let row = y * self.pitch;
             self.horizontal_row(kernel, frame, scratch, t + row, s + row);
         }
@@ -228,8 +226,7 @@ impl Interp {
         requires { OnePlane (length frame.old) (length scratch.old) (self.height + 3) self t s }
         ensures { frame.new ≡ vertical_plane kernel self t s frame.old }
     {
-        let height = self.height;
-        for y in 0..height {
+        for y in 0..self.height {
             self.vertical_row(kernel, frame, scratch, t, s, y);
         }
     }

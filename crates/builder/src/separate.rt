@@ -49,8 +49,7 @@ fn spread_vertical(
     requires { Spread (length src.now) src_pitch (length canvas.old.frame.now) (length canvas.old.spill.now) (length scratch.old) pitch target }
     ensures { Staged (vertical_rows filter (λ d. src.now) 0 src_pitch target (2 * pitch)) canvas.old canvas.new }
 {
-    let height = target.height;
-    for y in 0..height {
+    for y in 0..target.height {
         spread_vertical_row(filter, canvas, scratch, src, src_pitch, pitch, target, y);
     }
 }
@@ -94,8 +93,7 @@ fn spread_horizontal(
     requires { (1 ≤ target.width) × (target.width ≤ pitch) × (2 * pitch ≤ length scratch.old) × (2 * target.width + 2 ≤ length split.old) × (target.offset + target.height * (2 * pitch) ≤ length canvas.old.frame.now + length canvas.old.spill.now) }
     ensures { Staged (horizontal_rows filter target (2 * pitch)) canvas.old canvas.new }
 {
-    let height = target.height;
-    for y in 0..height {
+    for y in 0..target.height {
         let at = target.offset + y * (2 * pitch);
         spread_halve_row(filter, canvas, scratch, split, at, target.width);
     }
@@ -132,8 +130,7 @@ fn close_up(canvas: &mut Canvas, scratch: &mut [u8], pitch: usize, target: Regio
     requires { (pitch ≤ length scratch.old) × (target.offset + target.height * (2 * pitch) ≤ length canvas.old.frame.now + length canvas.old.spill.now) }
     ensures { Staged (close_up target.offset pitch target.height) canvas.old canvas.new }
 {
-    let height = target.height;
-    for y in 1..height {
+    for y in 1..target.height {
         let from = target.offset + y * (2 * pitch);
         let to = target.offset + y * pitch;
         close_row(canvas, scratch, from, to, pitch);

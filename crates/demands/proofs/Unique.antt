@@ -205,16 +205,16 @@ layout_tested_unique κs x r s e f p q = determined tested_known p q
 
 -- all that a level tells
 abbrev told : Level → Layout × ℕ × Region
-told t = (t.layout.layout, t.level, t.region)
+told t = (t.fitting.layout, t.level, t.region)
 
-level_alike : (t u : Level) → t.layout.layout ≡ u.layout.layout → t.level ≡ u.level → told t ≡ told u
+level_alike : (t u : Level) → t.fitting.layout ≡ u.fitting.layout → t.level ≡ u.level → told t ≡ told u
 level_alike t u a b = rw (t.lies, u.lies, a, b) refl
 
 -- all that a walk carries
 abbrev reached : Descent → Fitting × ℕ × ℕ × ℕ × ℕ
-reached d = (d.layout, d.level, d.offset, d.width, d.height)
+reached d = (d.fitting, d.level, d.offset, d.width, d.height)
 
-alike : (d e : Descent) → d.layout ≡ e.layout → d.level ≡ e.level → reached d ≡ reached e
+alike : (d e : Descent) → d.fitting ≡ e.fitting → d.level ≡ e.level → reached d ≡ reached e
 alike d e a b = rw (d.place, d.sides.0, d.sides.1, e.place, e.sides.0, e.sides.1, a, b) refl
 
 pub descent_top_unique : (κs : Lfts 0) → OneOutcome (descent_top_reads.Post κs) (λ r e. reached r)

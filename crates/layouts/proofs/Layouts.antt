@@ -242,5 +242,5 @@ pub turn : {n : Naturals} (q : Layout) (l : ℕ) → layout_no q ≡ 0 → n ≡
 turn q l fine e lt = let few = ap (λ (x : Naturals). x.levels) e in let most = levels_le q (allowed q fine) in (omega (arith, few, lt), omega (arith, few, most, lt))
 
 -- where the walk was before its last step, the level above the one that it has reached lies
-pub above_at : (d e : Descent) (t : Level) → e.layout ≡ d.layout → e.level ≡ d.level + 1 → t.layout ≡ e.layout → t.level ≡ e.level → d.offset ≡ offset_at t.layout.layout (t.level - 1)
+pub above_at : (d e : Descent) (t : Level) → e.fitting ≡ d.fitting → e.level ≡ d.level + 1 → t.fitting ≡ e.fitting → t.level ≡ e.level → d.offset ≡ offset_at t.fitting.layout (t.level - 1)
 above_at d e t a b x y = d.place ∙ ap₂ (λ (q : Fitting) (l : ℕ). offset_at q.layout l) (sym a ∙ sym x) (omega (arith, b, y))

@@ -15,22 +15,22 @@ use settings::super_opts::reduce_once;
 // Where a level lies, and the picture's sides, reduced so often. At the count of levels it is where the last one ends.
 #[derive(Clone, Copy)]
 pub struct Descent {
-    pub layout: Fitting,
+    pub fitting: Fitting,
     pub level: u32,
     pub offset: usize,
     width: u32,
     height: u32,
-    pub ghost place: { offset ≡ offset_at layout.layout level },
-    ghost sides: { (width ≡ reduced (luma_w layout.layout.opts) level) × (height ≡ reduced (luma_h layout.layout.opts) level) },
+    pub ghost place: { offset ≡ offset_at fitting.layout level },
+    ghost sides: { (width ≡ reduced (luma_w fitting.layout.opts) level) × (height ≡ reduced (luma_h fitting.layout.opts) level) },
 }
 
 impl Descent {
-    pub fn top(layout: Fitting) -> Descent
-        ensures { (result.layout ≡ layout) × (result.level ≡ 0) }
+    pub fn top(fitting: Fitting) -> Descent
+        ensures { (result.fitting ≡ fitting) × (result.level ≡ 0) }
     {
-        let n = layout.layout.opts.naturals();
+        let n = fitting.layout.opts.naturals();
         Descent {
-            layout,
+            fitting,
             level: 0,
             offset: 0,
             width: n.width,
@@ -40,14 +40,14 @@ impl Descent {
 
     pub fn next(self) -> Descent
         requires { self.level < most_levels }
-        ensures { (result.layout ≡ self.layout) × (result.level ≡ self.level + 1) }
+        ensures { (result.fitting ≡ self.fitting) × (result.level ≡ self.level + 1) }
     {
-        let layout = self.layout.layout;
+        let layout = self.fitting.layout;
         let above = self.height;
         let below = reduce_once(above);
         let rows = stored(layout, self.level) * (above >> layout.y_shift) as usize;
         Descent {
-            layout: self.layout,
+            fitting: self.fitting,
             level: self.level + 1,
             offset: self.offset + rows * layout.pitch,
             width: reduce_once(self.width),
@@ -57,7 +57,7 @@ impl Descent {
 
     pub fn down(self, to: u32) -> Descent
         requires { (self.level ≤ to) × (to ≤ most_levels) }
-        ensures { (result.layout ≡ self.layout) × (result.level ≡ to) }
+        ensures { (result.fitting ≡ self.fitting) × (result.level ≡ to) }
     {
         let mut at = self;
         while at.level < to {
@@ -67,9 +67,9 @@ impl Descent {
     }
 
     pub fn region(self) -> Region
-        ensures { result ≡ region_at self.layout.layout self.level }
+        ensures { result ≡ region_at self.fitting.layout self.level }
     {
-        let layout = self.layout.layout;
+        let layout = self.fitting.layout;
         Region {
             offset: self.offset,
             width: (self.width >> layout.x_shift) as usize,
@@ -78,11 +78,11 @@ impl Descent {
     }
 
     pub fn here(self) -> Level
-        requires { self.level < levels_of self.layout.layout }
-        ensures { (result.layout ≡ self.layout) × (result.level ≡ self.level) }
+        requires { self.level < levels_of self.fitting.layout }
+        ensures { (result.fitting ≡ self.fitting) × (result.level ≡ self.level) }
     {
         Level {
-            layout: self.layout,
+            fitting: self.fitting,
             level: self.level,
             region: self.region(),
         }

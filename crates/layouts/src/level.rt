@@ -9,26 +9,26 @@ use crate::levels::stored;
 
 #[derive(Clone, Copy)]
 pub struct Level {
-    pub layout: Fitting,
+    pub fitting: Fitting,
     pub level: u32,
     pub region: Region,
-    pub ghost there: { level < levels_of layout.layout },
-    pub ghost lies: { region ≡ region_at layout.layout level },
+    pub ghost there: { level < levels_of fitting.layout },
+    pub ghost lies: { region ≡ region_at fitting.layout level },
 }
 
 #[derive(Clone, Copy)]
 pub struct Later {
     pub base: usize,
     pub at: Level,
-    pub ghost above: { base ≡ offset_at at.layout.layout (at.level - 1) },
+    pub ghost above: { base ≡ offset_at at.fitting.layout (at.level - 1) },
 }
 
 impl Level {
     // Where it ends, and a level after it lies.
     pub fn end(self) -> usize
-        ensures { result ≡ offset_at self.layout.layout (self.level + 1) }
+        ensures { result ≡ offset_at self.fitting.layout (self.level + 1) }
     {
-        let layout = self.layout.layout;
+        let layout = self.fitting.layout;
         let target = self.region;
         target.offset + stored(layout, self.level) * target.height * layout.pitch
     }

@@ -43,21 +43,21 @@ fn clear_rows(frame: &mut [u8], target: Region, pitch: usize)
 impl Later {
     // Whether the fused cubic halves it, in a frame of len bytes.
     pub fn fuses(self, len: usize) -> bool
-        ensures { result ≡ fused_at self.at.layout.layout len self.at.level }
+        ensures { result ≡ fused_at self.at.fitting.layout len self.at.level }
     {
-        let layout = self.at.layout.layout;
+        let layout = self.at.fitting.layout;
         let opts = layout.opts;
         let fits = cubic_fits(self.base, layout.pitch, self.at.region, len);
         (opts.scale_down == 4) & (opts.full | (self.at.level >= 2)) & fits
     }
 
     pub fn clear(self, frame: &mut [u8])
-        requires { (1 ≤ self.at.level) × (written_end self.at.layout.layout ≤ length frame.old) }
-        ensures { frame.new ≡ clear_level self.at.layout.layout self.at.level frame.old }
+        requires { (1 ≤ self.at.level) × (written_end self.at.fitting.layout ≤ length frame.old) }
+        ensures { frame.new ≡ clear_level self.at.fitting.layout self.at.level frame.old }
     {
         if self.fuses(frame.len()) {
             return;
         }
-        clear_rows(frame, self.at.region, self.at.layout.layout.pitch);
+        clear_rows(frame, self.at.region, self.at.fitting.layout.pitch);
     }
 }

@@ -22,9 +22,9 @@ pub struct Run {
 impl Level {
     // Row y of a plane. Refusal 19.
     pub fn row(self, plane: usize, y: usize) -> Result<Run, Refusal>
-        ensures { placed result ≡ if_done (refuse (no_row self.layout.layout self.level plane y) 19) (run_of self.layout.layout self.level plane y) no_run }
+        ensures { placed result ≡ if_done (refuse (no_row self.fitting.layout self.level plane y) 19) (run_of self.fitting.layout self.level plane y) no_run }
     {
-        let layout = self.layout.layout;
+        let layout = self.fitting.layout;
         let target = self.region;
         if (stored(layout, self.level) <= plane) | (target.height <= y) {
             return Err(Refusal::NoRow);

@@ -23,7 +23,13 @@ pub struct Plane {
 }
 
 // In a frame of len bytes. Refusals 11 and 19.
-fn row_within(stored: Stored, len: usize, level: u32, plane: usize, y: usize) -> Result<Run, Refusal>
+fn row_within(
+    stored: Stored,
+    len: usize,
+    level: u32,
+    plane: usize,
+    y: usize,
+) -> Result<Run, Refusal>
     ensures { placed result ≡ place_answer stored.entry.opts stored.entry.numbers.now len level plane y }
 {
     if len < stored.end() {
@@ -91,7 +97,7 @@ fn plane_within(stored: Stored, len: usize, level: u32, plane: usize) -> Result<
         return Err(Refusal::NoRow);
     }
     let at = stored.level(level);
-    let layout = at.layout.layout;
+    let layout = at.fitting.layout;
     if planes(layout, level) <= plane {
         return Err(Refusal::NoRow);
     }

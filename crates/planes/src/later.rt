@@ -22,10 +22,10 @@ fn reduce(
     src: &[u8],
     src_pitch: usize,
 )
-    requires { Ready later.at.layout.layout (length src.now) src_pitch (length canvas.old.frame.now) (length canvas.old.spill.now) (length scratch.old) × (1 ≤ later.at.level) }
-    ensures { Staged (level_by fuse later.at.layout.layout src.now src_pitch (length canvas.old.frame.now) filter later.at.level) canvas.old canvas.new }
+    requires { Ready later.at.fitting.layout (length src.now) src_pitch (length canvas.old.frame.now) (length canvas.old.spill.now) (length scratch.old) × (1 ≤ later.at.level) }
+    ensures { Staged (level_by fuse later.at.fitting.layout src.now src_pitch (length canvas.old.frame.now) filter later.at.level) canvas.old canvas.new }
 {
-    let layout = later.at.layout.layout;
+    let layout = later.at.fitting.layout;
     let pitch = layout.pitch;
     let target = later.at.region;
     if fuse & later.fuses(canvas.frame.len()) {

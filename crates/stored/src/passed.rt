@@ -46,10 +46,10 @@ impl<'a> Stored<'a> {
     // As the numbers have it.
     pub fn level(self, level: u32) -> Level
         requires { level < levels_of (view_of self.opts self.numbers.now) }
-        ensures { (result.layout.layout ≡ view_of self.entry.opts self.entry.numbers.now) × (result.level ≡ level) }
+        ensures { (result.fitting.layout ≡ view_of self.entry.opts self.entry.numbers.now) × (result.level ≡ level) }
     {
         Level {
-            layout: self.layout(),
+            fitting: self.layout(),
             level,
             region: region_in(self.numbers, level),
         }

@@ -5,4 +5,4 @@ use Rattle.builder.specs.Halving.{halve_run}
 use Rattle.builder.proofs.halving.horizontal_rows.Given as goal
 
 abbrev pub invariant-loop-y : goal.invariant-loop-y
-invariant-loop-y l = Walked (λ i. halve_run l.filter l.target.width (l.target.offset + i * l.pitch)) l.initial.frame l.frame l.height l.y
+invariant-loop-y l = Walked (λ i. halve_run l.filter l.target.width (l.target.offset + i * l.pitch)) l.initial.frame l.frame l.target.height l.y

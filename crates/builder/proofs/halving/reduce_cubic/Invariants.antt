@@ -7,4 +7,4 @@ use Rattle.builder.specs.Halving.{vertical_line, fused_line}
 use Rattle.builder.proofs.halving.reduce_cubic.Given as goal
 
 abbrev pub invariant-loop-y : goal.invariant-loop-y
-invariant-loop-y l = Walked (λ i d. put d (l.target.offset + i * l.pitch) (fused_line l.pitch l.target.width (vertical_line Cubic (2 * l.target.width) (2 * l.target.width) l.target.height d l.base l.pitch i))) l.initial.frame l.frame l.height l.y
+invariant-loop-y l = Walked (λ i d. put d (l.target.offset + i * l.pitch) (fused_line l.pitch l.target.width (vertical_line Cubic (2 * l.target.width) (2 * l.target.width) l.target.height d l.base l.pitch i))) l.initial.frame l.frame l.target.height l.y

@@ -7,4 +7,4 @@ use Rattle.builder.proofs.separate.spread_vertical.Given as goal
 
 abbrev pub invariant-loop-y : goal.invariant-loop-y
 invariant-loop-y l = let n = 2 * l.target.width in
-    Passed (λ i d. put d (l.target.offset + i * (2 * l.pitch)) (vertical_line l.filter (whole_of l.filter n) n l.target.height l.src 0 l.src_pitch i)) l.initial.canvas l.canvas l.height l.y
+    Passed (λ i d. put d (l.target.offset + i * (2 * l.pitch)) (vertical_line l.filter (whole_of l.filter n) n l.target.height l.src 0 l.src_pitch i)) l.initial.canvas l.canvas l.target.height l.y

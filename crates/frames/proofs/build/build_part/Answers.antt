@@ -5,7 +5,7 @@ use native.Mathlib.Omega.{arith}
 use lib.ListN.{length, take, drop, length-drop}
 use lib.Seq.{length-take-le}
 use Rattle.frames.specs.declared.parts.Part.{Part}
-use Rattle.frames.specs.Parts.{length_of, start_of}
+use Rattle.frames.specs.Parts.{length_of}
 use Rattle.frames.proofs.Laid.{length_le, part_ends, start_le, part_by}
 use Rattle.frames.proofs.Joined.{part_back}
 use Rattle.frames.proofs.build.build_part.Goals as goal

@@ -1,15 +1,11 @@
 -- `build_tested` meets its contract. Assumes nothing.
-use mathlib.Core.Path.{◌≡◌, refl, sym, ap, ◌∙◌}
+use mathlib.Core.Path.{◌≡◌, refl, ◌∙◌}
 use mathlib.Core.Bool.{Bool, ◌||◌}
 use Prim.Native.Nat.{ℕ}
-use Rattle.std.proofs.lemmas.Result.{err_from_is_err_and}
-use Rattle.settings.specs.Numbers.{refuse, ◌then◌}
-use Rattle.settings.specs.Answers.{tested}
 use Rattle.layouts.specs.Layout.{width_at}
 use Rattle.layouts.specs.Refusals.{bad_pitch}
-use Rattle.layouts.proofs.Layouts.{then_kept}
-use Rattle.frames.specs.Parts.{plane_of, planes_no}
-use Rattle.frames.specs.Build.{three, any_of, lent_frame_no, build_frame_no}
+use Rattle.frames.specs.Parts.{plane_of}
+use Rattle.frames.specs.Build.{three, any_of, build_frame_no}
 use Rattle.frames.proofs.build.build_tested.Goals as goal
 
 pub returns-then-bad : goal.returns-then-bad

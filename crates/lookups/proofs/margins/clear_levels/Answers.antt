@@ -37,11 +37,10 @@ clear-requires c =
 pub loop-level-preserved : goal.loop-level-preserved
 loop-level-preserved c =
     let l = c.loop-level in
-    let same = c.next-at.ensures.0 ∙ l.invariant.2 in
-    (
+    let same = c.next-at.ensures.0 ∙ l.invariant.2 in (
       omega arith,
       walked_next (clear_level c.args.fitting.layout) l.invariant.0 l.invariant.1 c.loop-level-test.true c.clear.auto.frame
-      (c.clear.ensures ∙ ap₂ (λ (x : Fitting) (n : ℕ). clear_level x.layout n l.frame) (c.here.ensures.0 ∙ same) (omega (arith, l.invariant.0, l.invariant.3, c.next-at.ensures.1, c.here.ensures.1))),
+          (c.clear.ensures ∙ ap₂ (λ (x : Fitting) (n : ℕ). clear_level x.layout n l.frame) (c.here.ensures.0 ∙ same) (omega (arith, l.invariant.0, l.invariant.3, c.next-at.ensures.1, c.here.ensures.1))),
       same,
       omega (arith, l.invariant.0, l.invariant.3, c.next-at.ensures.1),
     )

@@ -25,13 +25,13 @@ use Rattle.lookups.proofs.Numbers.{plane_kept, frame_short, frame_long, plane_la
 use Rattle.lookups.proofs.rows.plane_within.Goals as goal
 
 -- the planes before it are few, and so are their bytes
-small : (t : Level) (l k : ℕ) {n : ℕ} → t.level ≡ l → n ≡ stored_at t.layout.layout l → k < n → k * t.region.height ≤ 16 * most_side
+small : (t : Level) (l k : ℕ) {n : ℕ} → t.level ≡ l → n ≡ stored_at t.fitting.layout l → k < n → k * t.region.height ≤ 16 * most_side
 small t l k at e lt =
-    let q = t.layout.layout in
-    rw t.lies (omega (arith, row_in k (stored_at q t.level) (height_at q t.level) (rw at (omega (arith, e, lt))), planes_le q (allowed q t.layout.fits) t.level))
+    let q = t.fitting.layout in
+    rw t.lies (omega (arith, row_in k (stored_at q t.level) (height_at q t.level) (rw at (omega (arith, e, lt))), planes_le q (allowed q t.fitting.fits) t.level))
 
-bytes : (t : Level) (l k : ℕ) {n : ℕ} → t.level ≡ l → n ≡ stored_at t.layout.layout l → k < n → k * t.region.height * t.layout.layout.pitch ≤ 16 * most_side * most_pitch
-bytes t l k at e lt = prod_le (16 * most_side) most_pitch (small t l k at e lt) (allowed t.layout.layout t.layout.fits).most
+bytes : (t : Level) (l k : ℕ) {n : ℕ} → t.level ≡ l → n ≡ stored_at t.fitting.layout l → k < n → k * t.region.height * t.fitting.layout.pitch ≤ 16 * most_side * most_pitch
+bytes t l k at e lt = prod_le (16 * most_side) most_pitch (small t l k at e lt) (allowed t.fitting.layout t.fitting.fits).most
 
 pub returns-then-len-end : goal.returns-then-len-end
 returns-then-len-end c =
@@ -71,8 +71,8 @@ overflow_mul-result-2 c = omega (arith, bytes c.level-at.result c.args.level c.a
 pub overflow_add-result : goal.overflow_add-result
 overflow_add-result c =
     let t = c.level-at.result in
-    let q = t.layout.layout in
-    let a = allowed q t.layout.fits in
+    let q = t.fitting.layout in
+    let a = allowed q t.fitting.fits in
     omega (arith, bytes t c.args.level c.args.plane c.level-at.ensures.1 c.stored.ensures c.if-stored-plane.false, ap (λ (x : Region). x.offset) t.lies, offset_le q a t.level (omega (arith, levels_le q a, t.there)))
 
 pub returns : goal.returns

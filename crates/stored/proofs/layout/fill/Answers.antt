@@ -1,4 +1,4 @@
-use mathlib.Core.Path.{◌≡◌, sym, ap, ap₂, ◌∙◌}
+use mathlib.Core.Path.{sym, ap, ap₂, ◌∙◌}
 use Prim.Native.Nat.{ℕ, ◌+◌}
 use native.Mathlib.Omega.{arith}
 use lib.ListN.{length-set}
@@ -34,8 +34,7 @@ pub loop-level-preserved : goal.loop-level-preserved
 loop-level-preserved c =
     let q = c.args.fitting in
     let l = c.loop-level in
-    let there = turn q.layout l.level q.fits c.naturals-levels.ensures c.loop-level-test.true in
-    (
+    let there = turn q.layout l.level q.fits c.naturals-levels.ensures c.loop-level-test.true in (
       ap (λ (x : Fitting). x.layout) c.next-at.ensures.0 ∙ l.invariant.0,
       c.next-at.ensures.1 ∙ ap (λ (n : ℕ). n + 1) l.invariant.1,
       omega (arith, c.loop-level-test.true),

@@ -7,4 +7,4 @@ use Rattle.builder.specs.Canvas.{fetch}
 use Rattle.builder.proofs.refining.Interp.horizontal.Given as goal
 
 abbrev pub invariant-loop-y : goal.invariant-loop-y
-invariant-loop-y l = Walked (λ k d. put d (l.t + k * l.self.pitch) (half_horizontal l.kernel l.self.width (fetch d (l.s + k * l.self.pitch) l.self.width))) l.initial.frame l.frame l.height l.y
+invariant-loop-y l = Walked (λ k d. put d (l.t + k * l.self.pitch) (half_horizontal l.kernel l.self.width (fetch d (l.s + k * l.self.pitch) l.self.width))) l.initial.frame l.frame l.self.height l.y

@@ -13,9 +13,9 @@ use Rattle.layouts.proofs.level.Later.fuses.Goals as goal
 pub cubic_fits-fits-requires : goal.cubic_fits-fits-requires
 cubic_fits-fits-requires c =
     let t = c.args.self.at in
-    let q = t.layout.layout in
+    let q = t.fitting.layout in
     let l = t.level in
-    let a = allowed q t.layout.fits in
+    let a = allowed q t.fitting.fits in
     let low = levels_le q a in
     let o0 = ap (λ (x : Region). x.offset) t.lies in
     let o1 = ap (λ (x : Region). x.width) t.lies in
@@ -24,4 +24,4 @@ cubic_fits-fits-requires c =
 
 pub returns : goal.returns
 unfolding fused_at
-returns c = rw (is_by_bits c.args.self.at.layout.layout.opts.scale_down 4 (search rules) (lit< tt), c.cubic_fits-fits.ensures, c.args.self.above, c.args.self.at.lies)
+returns c = rw (is_by_bits c.args.self.at.fitting.layout.opts.scale_down 4 (search rules) (lit< tt), c.cubic_fits-fits.ensures, c.args.self.above, c.args.self.at.lies)

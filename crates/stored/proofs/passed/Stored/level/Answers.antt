@@ -1,11 +1,10 @@
 -- `level` meets its contract. Assumes nothing.
-use mathlib.Core.Path.{◌≡◌, sym, ap, ◌∙◌}
+use mathlib.Core.Path.{sym, ap, ◌∙◌}
 use Prim.Native.Nat.{◌<◌}
 use native.Mathlib.Omega.{arith}
-use lib.ListN.{get_or}
 use Rattle.layouts.specs.declared.layout.Layout.{Layout}
 use Rattle.layouts.specs.Layout.{levels_of, region_at}
-use Rattle.stored.proofs.Exact.{Passed, passed, passed_long, passed_count, Found, found}
+use Rattle.stored.proofs.Exact.{passed, passed_long, passed_count, Found, found}
 use Rattle.stored.specs.declared.passed.Stored.{Stored}
 use Rattle.stored.specs.Layout.{view_of}
 use Rattle.stored.proofs.passed.Stored.level.Goals as goal
