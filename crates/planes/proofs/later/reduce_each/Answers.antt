@@ -1,5 +1,4 @@
 use mathlib.Core.Path.{ap, ap₂, ◌∙◌}
-use mathlib.Core.List.{◌++◌}
 use Prim.Native.Nat.{ℕ, ◌+◌, ◌-◌}
 use native.Mathlib.Omega.{arith}
 use lib.ListN.{length}
