@@ -6,11 +6,11 @@ use Prim.Native.Nat.{ℕ, ◌+◌, ◌-◌, ◌≤◌, ◌<◌}
 use native.Mathlib.Nat.{le_of_suc-le-suc, eq-or-lt_of_le}
 use native.Mathlib.Numerals.{add-one}
 use native.Mathlib.Omega.{arith}
-use lib.ListN.{length, get_or, set, length-set}
+use lib.ListN.{length, take, drop, get_or, set, length-set}
 use lib.Seq.{get_or-set_same, get_or-set_other}
-use Rattle.filters.specs.Row.{tab}
+use Rattle.filters.specs.Row.{tab, mean_of, means_of}
 use Rattle.filters.specs.Inner.{laid}
-use Rattle.filters.proofs.Tables.{tab_length, tab_at, is_tab, back_length, back_front}
+use Rattle.filters.proofs.Tables.{tab_length, tab_at, is_tab, means_from, take_from, back_length, back_front}
 
 pub record Filled (f : ℕ → ℕ) (out : List ℕ) (n i : ℕ) : Type 0 where
   pub most : i ≤ n
@@ -53,3 +53,10 @@ filled_part {f} {out} {o} {n} {i} h w fits made =
       long = back_length out k i e (omega arith) inside whole ∙ h.long;
       done = back_front out k i e (omega arith) inside whole f h.done (λ j lt. tab_at (λ j. f (i + j)) w j (omega arith));
     }))
+
+-- means, and a copy, of a part
+pub means_part : (a b : List ℕ) {out o : List ℕ} {n i : ℕ} → Filled (λ j. mean_of (get_or a j 0) (get_or b j 0)) out n i → (w : ℕ) → i + w ≤ n → o ≡ laid out i w (means_of w (drop i a) (drop i b)) → Filled (λ j. mean_of (get_or a j 0) (get_or b j 0)) o n (i + w)
+means_part a b {out} {o} {n} {i} h w fits made = filled_part h w fits (made ∙ ap (laid out i w) (means_from w i a b))
+
+pub copied_part : (row : List ℕ) {out o : List ℕ} {n i : ℕ} → Filled (λ j. get_or row j 0) out n i → (w : ℕ) → i + w ≤ n → n ≤ length row → o ≡ laid out i w (take w (drop i row)) → Filled (λ j. get_or row j 0) o n (i + w)
+copied_part row {out} {o} {n} {i} h w fits long made = filled_part h w fits (made ∙ ap (laid out i w) (take_from w i row (omega arith)))

@@ -6,7 +6,7 @@ use Prim.Native.Nat.{ℕ, zero, suc, ◌+◌, ◌-◌, ◌≤◌, ◌<◌}
 use native.Mathlib.Nat.{le_of_suc-le-suc, eq-or-lt_of_le}
 use native.Mathlib.Omega.{arith}
 use lib.ListN.{length, get_or, take, drop, length-append, length-drop, get_or-append}
-use lib.Seq.{ext_get_or, get_or-append_seam, get_or-append-add, get_or-take, get_or-drop, length-take-le}
+use lib.Seq.{ext_get_or, get_or-append_seam, get_or-append-add, get_or-take, get_or-drop, length-take-le, take_all}
 use Rattle.filters.specs.Row.{tab, mean_of, means_of}
 use Rattle.filters.specs.Inner.{laid}
 use Rattle.filters.proofs.Tests.{below_or}
@@ -48,6 +48,13 @@ pub part_length : (l : List ℕ) (a e : ℕ) → a ≤ e → e ≤ length l → 
 part_length l a e ordered fits = length-take-le (e - a) (drop a l) (omega (arith, length-drop a l))
 
 -- ---- a part that was lent and came back
+-- a block laid whole into the part that was lent for it
+pub laid_whole : (o l k : List ℕ) (at w : ℕ) → at + w ≤ length o → length l ≡ w → k ≡ take (length (take (at + w - at) (drop at o))) l → laid o at (at + w - at) k ≡ laid o at w l
+laid_whole o l k at w fits long made =
+    let width : at + w - at ≡ w = omega arith in
+    let whole : k ≡ l = made ∙ take_all (length (take (at + w - at) (drop at o))) l (omega (arith, part_length o at (at + w) (omega arith) fits)) in
+    rw (whole, width) refl
+
 module _ (o k : List ℕ) (a e : ℕ) (ordered : a ≤ e) (fits : e ≤ length o) (whole : length k ≡ e - a) where
   abbrev back : List ℕ
   back = laid o a (e - a) k

@@ -21,7 +21,9 @@ fn word(place: [u8; 9]) -> u32 {
 }
 
 // The value of a digit; of any other byte some value below 16, which `to_digit` has none for.
-fn digit(b: u8) -> u32 {
+fn digit(b: u8) -> u32
+    ensures { result < 16 }
+{
     if b < b'a' {
         return u32::from(b % 16);
     }

@@ -4,7 +4,7 @@
 // Filters: 1 average, 2 bilinear, 3 quadratic, 4 cubic; of half samples 1 bicubic, 2 Wiener.
 #![tactic(auto)]
 
-ghost use Rattle.std.specs.Prelude.{◌*◌, ◌≤◌, ◌≡◌, length};
+ghost use Rattle.std.specs.Prelude.{◌*◌, ◌<◌, ◌≤◌, ◌≡◌, length};
 
 use cases::{End, MOST_CASES, for_each_case, read_array, read_whole};
 use filters::half_pel::HalfPel;
@@ -70,7 +70,9 @@ fn case_of(head: [u8; 16]) -> Case {
     }
 }
 
-fn two(low: u8, high: u8) -> usize {
+fn two(low: u8, high: u8) -> usize
+    ensures { result < 65536 }
+{
     usize::from(u16::from_le_bytes([low, high]))
 }
 
