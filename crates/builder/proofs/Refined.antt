@@ -22,7 +22,7 @@ use Rattle.layouts.proofs.Loops.{row_in, put_plain}
 use Rattle.builder.specs.Canvas.{fetch}
 use Rattle.builder.specs.declared.refining.Interp.{Interp}
 use Rattle.builder.specs.declared.refining.Pair.{Pair}
-use Rattle.builder.specs.Refining.{pair_run, pair_plane, horizontal_plane, vertical_run, vertical_plane, plane_at, kernel_planes, pair_of, pairs, quarter, fold_pairs}
+use Rattle.builder.specs.Refining.{pair_run, vertical_run, plane_at, pair_of, pairs, quarter, fold_pairs}
 use Rattle.builder.specs.Room.{PairPlane, OnePlane, Planes, Halves, Quarter}
 use Rattle.builder.proofs.Runs.{fetch_at, fetch_length, fetch_before, fetch_stored, put_before, put_past}
 
