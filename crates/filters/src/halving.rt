@@ -249,7 +249,7 @@ pub fn deinterleave(split: &mut [u8], src: &[u8], n: usize)
     split[1] = mean(src[0], src[1]);
 }
 
-// The even bytes of n pairs from place 1 on, and then the odd ones.
+// The even bytes of n pairs from place 1 on, and then the odd ones. By index: a turn writes two places of one slice.
 fn take_apart(split: &mut [u8], src: &[u8], n: usize)
     requires { (2 * n ≤ length src.now) × (2 * n + 2 ≤ length split.old) }
     ensures { Apart n n src.now split.new }

@@ -35,6 +35,7 @@ const STEP: usize = 3;
 
 pub const LAYOUT: usize = HEAD + STEP * MOST_LEVELS;
 
+// By index for the reason that `zero_row` of `filters` has: `fill` takes some instructions a call more.
 fn zero(numbers: &mut [usize])
     ensures { numbers.new ≡ replicate (length numbers.old) 0 }
 {
