@@ -1,9 +1,8 @@
 -- An answer put at the front of a slice that has room for it or hasn't. Assumes nothing.
-use mathlib.Core.Path.{◌≡◌, refl, ap}
-use mathlib.Core.List.{List, [], ◌∷◌, ◌++◌}
+use mathlib.Core.Path.{◌≡◌, ap}
+use mathlib.Core.List.{List, ◌++◌}
 use Prim.Native.Nat.{◌≤◌, ◌<◌}
-use native.Mathlib.Omega.{arith}
-use lib.ListN.{length, drop, set}
+use lib.ListN.{length, drop}
 use borrow.Author.Tests.{lt-ltb, le-ltb}
 use Rattle.settings.specs.Answers.{answer}
 use Rattle.answers.specs.Lent.{tells}
@@ -13,7 +12,3 @@ put_short values lent h = rw (lt-ltb (length lent) (length values) h)
 
 pub put_fits : {A : Type 0} {out : List A} (values lent : List A) → length values ≤ length lent → out ≡ values ++ drop (length values) lent → answer 0 out ≡ tells 0 values lent
 put_fits values lent h e = rw (le-ltb (length lent) (length values) h) (ap (answer 0) e)
-
-pub set_first : {A : Type 0} (a : A) (lent : List A) → 1 ≤ length lent → set lent 0 a ≡ (a ∷ []) ++ drop 1 lent
-set_first a [] h = absurd (omega arith)
-set_first a (x ∷ lent) h = refl

@@ -2,15 +2,12 @@
 use mathlib.Core.Path.{◌≡◌, refl, ap, ◌∙◌}
 use mathlib.Core.Bool.{Bool, true, false, cond, ◌&&◌}
 use mathlib.Core.List.{List}
-use Prim.Native.Nat.{ℕ, ◌≤◌, ◌<◌}
-use native.Mathlib.Omega.{arith}
+use Prim.Native.Nat.{ℕ}
 use lib.Dec.{eqb, leb, ltb}
 use lib.ListN.{length}
-use borrow.Author.Tests.{eqb-false, le-leb, lt-ltb, le-ltb}
 use Rattle.settings.specs.declared.refusal.Refusal.{Refusal}
 use Rattle.settings.specs.Answers.{Answer, answer, if_done, number, written}
 use Rattle.settings.proofs.Known.{number_some, number_of, value_given}
-use Rattle.settings.proofs.Tests.{and_no}
 use Rattle.answers.specs.Lent.{lowest, tells}
 
 chosen_some : (n : ℕ) (low short : Bool) → eqb n 0 ≡ false → eqb (cond low n (cond short 15 n)) 0 ≡ false
@@ -21,21 +18,6 @@ chosen_some n false false h = h
 -- a refusal stays one
 lowest_some : (f : Refusal) (short : Bool) → eqb (lowest (number f) short) 0 ≡ false
 lowest_some f short = chosen_some (number f) (leb 1 (number f) && ltb (number f) 15) short (number_some f)
-
--- m is the number of f: below 15, or 15 and more with a slice that is too short or isn't
-pub lowest_low : {m : ℕ} (f : Refusal) (short : Bool) → m ≡ number f → m < 15 → m ≡ lowest (number f) short
-lowest_low {m} f short e h =
-    let some : 1 ≤ m = omega (arith, eqb-false (number f) 0 (number_some f)) in
-    rw (← e, le-leb 1 m some, lt-ltb m 15 h)
-
-not_low : (n : ℕ) → 15 ≤ n → (leb 1 n && ltb n 15) ≡ false
-not_low n h = rw (le-ltb n 15 h) (and_no (leb 1 n))
-
-pub lowest_short : {m : ℕ} (f : Refusal) (len need : ℕ) → m ≡ number f → 15 ≤ m → len < need → 15 ≡ lowest (number f) (ltb len need)
-lowest_short {m} f len need e h short = rw (← e, not_low m h, lt-ltb len need short)
-
-pub lowest_other : {m : ℕ} (f : Refusal) (len need : ℕ) → m ≡ number f → 15 ≤ m → need ≤ len → m ≡ lowest (number f) (ltb len need)
-lowest_other {m} f len need e h enough = rw (← e, not_low m h, le-ltb len need enough)
 
 kept : {A : Type 0} (n : ℕ) (a lent : List A) → eqb n 0 ≡ false → answer n lent ≡ if_done n a lent
 kept n a lent h = rw h

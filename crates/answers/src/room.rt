@@ -10,6 +10,7 @@ use layouts::fitting::Fitting;
 use settings::refusal::Refusal;
 use stored::layout::{LAYOUT, fill};
 
+// C's number where a slice is too short for what goes into it: `BadLonghand::Short` has it too.
 pub const TOO_SHORT: u32 = 15;
 
 pub fn number(t: Result<(), Refusal>) -> u32

@@ -24,12 +24,6 @@ use Rattle.builder.specs.Room.{Source}
 use Rattle.builder.proofs.Runs.{two_parts, rest_length}
 
 -- ---- how far a filter reads
-first_near : (f : ReduceFilter) (sp : ℕ) → first_row f * sp ≤ 2 * sp
-first_near Average sp = omega arith
-first_near Bilinear sp = omega arith
-first_near Quadratic sp = omega arith
-first_near Cubic sp = omega arith
-
 last_near : (f : ReduceFilter) (sp : ℕ) → (sp ≤ last_row f * sp) × (min (last_row f) 2 * sp ≤ last_row f * sp)
 last_near Average sp = (omega arith, omega arith)
 last_near Bilinear sp = (omega arith, omega arith)
@@ -76,13 +70,6 @@ line_edge f whole n h s base sp y e p q = rw (e, p, q)
 pub line_inner : (f : ReduceFilter) (whole n h : ℕ) (s : List ℕ) (base sp y : ℕ) → is_edge f y h ≡ false → inner_line f whole n s (base + y * (2 * sp)) sp ≡ vertical_line f whole n h s base sp y
 unfolding vertical_line
 line_inner f whole n h s base sp y e = rw e
-
--- columns past the whole ones are the cubic's
-pub rest_reach : (f : ReduceFilter) (n sp : ℕ) {k : ℕ} → k ≡ whole_of f n → (k ≡ n → ⊥) → last_row f * sp ≡ 3 * sp
-rest_reach Average n sp e ne = absurd (ne e)
-rest_reach Bilinear n sp e ne = absurd (ne e)
-rest_reach Quadratic n sp e ne = absurd (ne e)
-rest_reach Cubic n sp e ne = refl
 
 pub whole_length : (f : ReduceFilter) (n : ℕ) (s : List ℕ) (at sp : ℕ) → length (whole_line f n s at sp) ≡ n
 unfolding whole_line

@@ -7,6 +7,7 @@ ghost use Rattle.builder.specs.Canvas.{fetch, bytes_of, Staged};
 
 use filters::rows::{copy_row, zero_row};
 
+// The spill may have any length: the stages that need 16 bytes of it say so.
 // Contracts see both slices, and of a stage that these stay the ones that were lent (`Staged`). No `impl Model`: behind it who lent them would not know what they hold after.
 #[derive(Drop)]
 pub struct Canvas<'a> {

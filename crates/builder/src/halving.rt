@@ -1,6 +1,7 @@
 // Later levels from the level before, inside the frame: open-svpflow's `reduce` and `reduce_cubic`.
 // The loops over rows here, in separate.rt and in refining.rt are one each for a kind of row: a loop for all would take the row as a closure, and ask of it all that the row's function promises.
 // `reduce_within` and `reduce_cubic` are lent the frame alone, so that the laws about them (`functions_picture`) need no spill: hence rows of their own, beside those of separate.rt.
+// `Within`, as `Spread` and `Planes` beside it, is one clause about lengths of slices that are lent: a type that said it would hold the slices.
 // `pitch` stands beside `target`, as in the Rust: it is the layout's, one for all its regions, and the definitions take both.
 // First a row of the target before and after it is halved; then the generic level; last the fused one.
 ghost use Rattle.std.specs.Prelude.{◌≡◌, ◌+◌, ◌*◌, ◌-◌, ◌≤◌, ◌<◌, length, replicate};

@@ -11,6 +11,7 @@ pub trait Taps: Copy {
 }
 
 // The rule at each place, written as `out[i]` for the reason that `rows` gives. A row that the rule doesn't read may be any that is long enough.
+// Six rows are six parameters: the rule names each, and of an array a clause would say which number each has.
 // The bytes are read from the outer rows inward: of rows read in their own order, evenly apart, the compiler would make each address from the one before, at an instruction each.
 #[tactic(auto, using(crate::proofs::Filling::filled_whole), unfolding(crate::specs::Row::sixes))]
 pub fn six_row<T: Taps>(

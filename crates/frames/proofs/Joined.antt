@@ -41,9 +41,6 @@ module _ (r : SuperOpts) (k : ℕ) (P M S : List ℕ) (start : length P ≡ star
 
 -- a part from a on, of n bytes, that is lent on and put back
 module _ (r : SuperOpts) (k a n : ℕ) (start : a ≡ start_of r k) (long : n ≡ length_of r k) (f : List ℕ) where
-  pub lent_long : a + n ≤ length f → length (take (a + n - a) (drop a f)) ≡ length_of r k
-  lent_long le = rw (add-sub_cancel_left a n, start, long) (part_long r k f (omega (arith, total_suc (length_of r) k, start, long, le)))
-
   pub part_back : (s : List ℕ) (p : ℕ) {q : Layout} {own : List ℕ} → q ≡ plane_of r k → own ≡ built_frame q s p (take (a + n - a) (drop a f)) → take a f ++ (own ++ drop (a + n - a) (drop a f)) ≡ part_built r k s p f
   part_back s p is e =
       rw (e, is, add-sub_cancel_left a n, start, long)

@@ -1,7 +1,7 @@
 -- A record that a frame of three planes takes: neither plane's layout is refused, so 7 and 8 can't arise, and the parts' starts are small. Assumes nothing.
 use mathlib.Core.Path.{◌≡◌, refl, ap, ◌∙◌}
 use mathlib.Core.Bool.{true, false, not, ◌||◌}
-use Prim.Native.Nat.{ℕ, zero, suc, ◌+◌, ◌*◌, ◌/◌, ◌≤◌}
+use Prim.Native.Nat.{ℕ, zero, suc, ◌+◌, ◌*◌, ◌≤◌}
 use native.Mathlib.Numerals.{add-one}
 use native.Mathlib.Omega.{arith}
 use lib.Dec.{ltb}
@@ -59,14 +59,6 @@ pub laid_out : (r : SuperOpts) → planes_no r ≡ 0 → (k : ℕ) → layout_no
 unfolding reduced
 laid_out r e zero = let w = taken r e in laid_by (plane_of r 0) w.good w.full refl (omega (arith, w.wide)) (omega arith) (omega (arith, (within r w.good).width))
 laid_out r e (suc k) = let w = taken r e in laid_by (plane_of r (suc k)) w.good w.full refl (omega (arith, w.wide)) (omega arith) (omega (arith, (within r w.good).width))
-
--- a layout is plane k's by its numbers
-pub plane_luma : (r : SuperOpts) (k : ℕ) {w : ℕ} → w ≡ luma_w r → k ≡ 0 → ◌≡◌ {A = Layout} (record { opts = r; x_shift = 0; y_shift = 0; pitch = w }) (plane_of r k)
-plane_luma r k e z = rw (e, z) refl
-
-pub plane_chroma : (r : SuperOpts) (k : ℕ) {w : ℕ} → w ≡ luma_w r → (k ≡ 0 → ⊥) → ◌≡◌ {A = Layout} (record { opts = r; x_shift = 1; y_shift = 1; pitch = w / 2 }) (plane_of r k)
-plane_chroma r zero e some = absurd (some refl)
-plane_chroma r (suc k) e some = rw e refl
 
 pub laid_plane : (r : SuperOpts) → planes_no r ≡ 0 → (k : ℕ) {q : Layout} → q ≡ plane_of r k → layout_no q ≡ 0
 laid_plane r e k is = ap layout_no is ∙ laid_out r e k

@@ -1,4 +1,4 @@
-// The planes of a frame, Y, U and V, by the numbers 0, 1 and 2: where the part of each lies.
+// The planes of a frame, Y, U and V, by the numbers 0, 1 and 2, which C gives for them: where the part of each lies.
 // First a plane's layout, and the length of its part; then the refusals; then where the parts lie; last a row of one.
 ghost use Rattle.std.specs.Prelude.{◌≡◌, length};
 ghost use Rattle.settings.specs.Answers.{tested};

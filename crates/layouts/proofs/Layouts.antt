@@ -107,10 +107,6 @@ pub shifted_out : (n s : ℕ) → n < 2 ^ 32 → 32 ≤ s → 0 ≡ n / 2 ^ s
 shifted_out n s small far = sym (div-eq_of_lt (le_trans small (pow-le-pow_right {n = 2} (omega arith) far)))
 
 -- ---- the planes that a level keeps
-pub stored_later : (q : Layout) (l : ℕ) → (l ≡ 0 → ⊥) → 1 ≡ stored_at q l
-stored_later q zero h = absurd (h refl)
-stored_later q (suc l) h = refl
-
 pub stored_first : (q : Layout) (l : ℕ) → l ≡ 0 → stored_at q l ≡ cond q.opts.full (pel_of q.opts * pel_of q.opts) 0
 stored_first q l e = ap (stored_at q) e
 

@@ -6,9 +6,6 @@ use native.Mathlib.Nat.{mul-le-mul_right, add-mul, one-mul}
 use native.Mathlib.Numerals.{add-one, add-one-le}
 use native.Mathlib.Omega.{arith}
 use lib.ListN.{length, take, drop, replicate, length-take, length-drop, length-replicate, take-append-drop}
-use mir.Syntax.{Width}
-use mir.Val.{Fits}
-use mir.Facts.{Fits-le}
 use Rattle.layouts.specs.Storing.{put, steps}
 
 -- ---- put
@@ -43,13 +40,6 @@ row_fits len s n p rows y fits in' lt = omega (arith, row_in y rows p lt)
 pub steps_next : (step : ℕ → List ℕ → List ℕ) (n : ℕ) (c : List ℕ) → steps step (n + 1) c ≡ step n (steps step n c)
 unfolding steps
 steps_next step n c = rw (add-one n)
-
--- the next turn of a loop of h turns: its number fits, and fewer turns are left
-pub next_fits : {w : Width} {y h : ℕ} → y < h → Fits w h → Fits w (y + 1)
-next_fits lt fits = Fits-le (add-one-le lt) fits
-
-pub next_less : {y h : ℕ} → y < h → h - (y + 1) < h - y
-next_less lt = omega arith
 
 -- what a loop over rows knows at its head
 pub record Walked (step : ℕ → List ℕ → List ℕ) (c₀ c : List ℕ) (h y : ℕ) : Type 0 where

@@ -2,16 +2,11 @@
 use mathlib.Core.Path.{◌≡◌, refl, ap}
 use mathlib.Core.Bool.{Bool, true, false, cond, not}
 use mathlib.Core.List.{List, [], ◌∷◌}
-use Prim.Native.Nat.{ℕ, suc, ◌+◌, ◌-◌, ◌≤◌}
+use Prim.Native.Nat.{ℕ, suc, ◌+◌, ◌≤◌}
 use native.Mathlib.Omega.{arith}
 use lib.Dec.{eqb}
-use lib.ListN.{length, take, drop, length-drop}
-use lib.Seq.{take_all}
+use lib.ListN.{length, take, drop}
 use Rattle.lines.specs.Parting.{before, ahead, lines_of}
-
--- ---- a part that goes on to the end
-pub part_rest : (n : ℕ) (l : List ℕ) → take (length l - n) (drop n l) ≡ drop n l
-part_rest n l = take_all (length l - n) (drop n l) (omega (arith, length-drop n l))
 
 -- ---- a line more
 line_first : (b : ℕ) (s : List ℕ) (t : Bool) → ahead b (lines_of s) ≡ (b ∷ take (before 10 s) s) ∷ lines_of (drop (suc (before 10 s)) s) → cond t ([] ∷ lines_of s) (ahead b (lines_of s)) ≡ take (cond (not t) (1 + before 10 s) 0) (b ∷ s) ∷ lines_of (drop (suc (cond (not t) (1 + before 10 s) 0)) (b ∷ s))

@@ -174,7 +174,3 @@ module _ (q : Layout) {n sp len spill scratch : ℕ} (r : Ready q n sp len spill
     pub by_source : {Y : List ℕ} → (fuse && fused_at q (length F) l) ≡ false → (q.opts.full || leb 2 l) ≡ false → Y ≡ from_source f src sp q.pitch t (F ++ S) → Y ≡ level_by fuse q src sp (length F) f l (F ++ S)
     unfolding level_by
     by_source {Y} e g is = is ∙ rw (to, e, g) refl
-
--- the slices keep their lengths
-pub ready_kept : {q : Layout} {n sp len spill scratch len' spill' scratch' : ℕ} → len' ≡ len → spill' ≡ spill → scratch' ≡ scratch → Ready q n sp len spill scratch → Ready q n sp len' spill' scratch'
-ready_kept e f g r = rw (e, f, g) r

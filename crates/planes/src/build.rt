@@ -1,4 +1,5 @@
 // A plane of a frame, built whole: open-svpflow's `build_plane`.
+// `src` and `src_pitch` stay two parameters, as C lends them: of a struct each clause would say `rows.entry.src.now` for `src.now`.
 // First level 0; then the refining of it; then all stages; last the call with a switch for the fused path, and the public one.
 ghost use Rattle.std.specs.Prelude.{◌≡◌, cond, ◌≤◌, length};
 ghost use Rattle.settings.specs.Answers.{tested};

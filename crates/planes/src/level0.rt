@@ -1,20 +1,9 @@
 // A view of the source plane that level 0 is copied from: open-svpflow's `Level0`.
-// First the view's work, with plain parameters; then the view; last the view made and used at once.
+// First the view and its rows; last the view made and used at once.
 ghost use Rattle.std.specs.Prelude.{◌≡◌, cond, [], ◌+◌, ◌*◌, ◌≤◌, ◌<◌, ltb, length};
 ghost use Rattle.builder.specs.Canvas.{fetch};
 
 use builder::canvas::span;
-
-// Row y of a plane of height rows of width bytes, src_pitch apart: a part of src, empty past the last row.
-fn row_of(src: &[u8], src_pitch: usize, width: usize, height: usize, y: usize) -> &[u8]
-    requires { y < height → y * src_pitch + width ≤ length src.now }
-    ensures { result.now ≡ cond (ltb y height) (fetch src.now (y * src_pitch) width) [] }
-{
-    if height <= y {
-        return &src[..0];
-    }
-    span(src, y * src_pitch, width)
-}
 
 #[derive(Clone, Copy)]
 pub struct Level0<'a> {
@@ -25,11 +14,15 @@ pub struct Level0<'a> {
 }
 
 impl<'a> Level0<'a> {
+    // Row y: a part of the source plane, empty past the last row.
     fn row(self, y: usize) -> &'a [u8]
         requires { y < self.height → y * self.src_pitch + self.width ≤ length self.src.now }
         ensures { result.now ≡ cond (ltb y self.entry.height) (fetch self.entry.src.now (y * self.entry.src_pitch) self.entry.width) [] }
     {
-        row_of(self.src, self.src_pitch, self.width, self.height, y)
+        if self.height <= y {
+            return &self.src[..0];
+        }
+        span(self.src, y * self.src_pitch, self.width)
     }
 }
 

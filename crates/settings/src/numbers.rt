@@ -1,4 +1,5 @@
 // Integers and bools read as numbers: first a natural number and a bit, then an i32 as its bits and back.
+// Each is one call of the library, under the name that the definitions have for it.
 ghost use Rattle.std.specs.Prelude.{◌≡◌, ◌<◌};
 ghost use Rattle.settings.specs.Numbers.{bit, bits_of, of_bits, to_nat};
 

@@ -67,6 +67,7 @@ pub enum BadPlanes {
 }
 
 impl Refusal {
+    // A refusal that is the only one of its kind has no enum of its own, and so its number here.
     pub fn number(self) -> u32
         ensures { result ≡ number self }
     {

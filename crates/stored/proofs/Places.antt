@@ -9,7 +9,7 @@ use lib.Seq.{get_or-append-add, get_or-take, length-take-le}
 use Rattle.settings.specs.Limits.{most_levels}
 use Rattle.filters.proofs.Tests.{below_or}
 use Rattle.filters.proofs.Tables.{tab_length, tab_at, is_tab, part_length}
-use Rattle.filters.proofs.Filling.{Filled, filled_none, filled_more}
+use Rattle.filters.proofs.Filling.{Filled, filled_more}
 use Rattle.layouts.specs.declared.layout.Layout.{Layout}
 use Rattle.layouts.specs.declared.layout.Region.{Region}
 use Rattle.layouts.specs.Layout.{levels_of, region_or, no_region}
@@ -77,16 +77,6 @@ is_stored_lem q l long n x y p regions = is_tab l (number_at q) most_numbers lon
         ap (λ (j : ℕ). get_or l j 0) here ∙ number_in l (k / 3) (k % 3) few ∙ ap (λ (t : Region). region_number t (k % 3)) (regions (k / 3) (omega arith))
 
 -- ---- filling them in
-abbrev pub headed : List ℕ → ℕ → ℕ → ℕ → ℕ → List ℕ
-headed l n x y p = set (set (set (set l 0 n) 1 x) 2 y) 3 p
-
-pub filled_head : (q : Layout) (l : List ℕ) (n x y p : ℕ) → length l ≡ most_numbers → n ≡ levels_of q → x ≡ q.x_shift → y ≡ q.y_shift → p ≡ q.pitch → Filled (number_at q) (headed l n x y p) most_numbers (4 + 3 * 0)
-filled_head q l n x y p long is-n is_x is_y is-p =
-    let a : Filled (number_at q) (set l 0 n) most_numbers 1 = filled_more (filled_none {out = l} long) (omega arith) is-n in
-    let b : Filled (number_at q) (set (set l 0 n) 1 x) most_numbers 2 = filled_more a (omega arith) is_x in
-    let c : Filled (number_at q) (set (set (set l 0 n) 1 x) 2 y) most_numbers 3 = filled_more b (omega arith) is_y in
-    filled_more c (omega arith) is-p
-
 abbrev pub put_region : List ℕ → ℕ → Region → List ℕ
 put_region l i t = set (set (set l (4 + 3 * i) t.offset) (4 + 3 * i + 1) t.width) (4 + 3 * i + 2) t.height
 

@@ -56,6 +56,7 @@ pub fn fill(numbers: &mut [usize], fitting: Fitting)
     numbers[Y_SHIFT] = layout.y_shift as usize;
     numbers[PITCH] = layout.pitch;
     let mut at = Descent::top(fitting);
+    // By index: a level's numbers are written where `region_in` reads them.
     for level in 0..levels {
         let r = at.region();
         let i = HEAD + STEP * level as usize;
@@ -88,7 +89,7 @@ fn has_view(numbers: &[usize]) -> bool
 }
 
 // What settles it, with the record that stands beside it.
-pub(crate) fn view(opts: SuperOpts, numbers: &[usize]) -> Layout
+pub fn view(opts: SuperOpts, numbers: &[usize]) -> Layout
     requires { has_view numbers.now ≡ true }
     ensures { result ≡ view_of opts numbers.now }
 {
