@@ -60,7 +60,7 @@ impl Sides {
         &plane[at..at + self.w]
     }
 
-    // How many samples of b differ.
+    // How many samples of b differ. Added in a loop, as below: `sum` asks that all its sums fit, which its closure doesn't tell.
     fn along(self, src: &[u8; 4096], b: &[u8; 4096]) -> usize {
         let mut differ = 0;
         for y in 0..self.h {

@@ -56,13 +56,11 @@ fn negated(n: u64) -> i32
 pub(crate) fn int_of(field: &[u8]) -> Option<i32>
     ensures { result ≡ int_of field.now }
 {
-    if field.len() == 0 {
-        return None;
+    match field {
+        [] => None,
+        [b'-', digits @ ..] => minus_of(digits),
+        _ => plain_of(field),
     }
-    if field[0] == b'-' {
-        return minus_of(&field[1..]);
-    }
-    plain_of(field)
 }
 
 fn is_byte(field: &[u8], b: u8) -> bool
