@@ -1,12 +1,11 @@
 -- One outcome: no second answer, row, frame, spill or scratch meets the contract of a public call (`OneOutcome`), by one law (`determined`). The calls of `settings` and `longhands`, and `view` of `stored`, proved there, are named among the imports; then come the rows of `filters`, the inner calls of `settings`, `layouts`, `stored`, `lookups` and `builder`, and last the public calls of `stored`, `lookups` and `planes`, `build_plane` by the inner call that it makes. docs/EXCEPTIONS.md has those that aren't here. Assumes nothing.
 use Rattle.std.specs.Prelude.{Result, ⊤}
-use mathlib.Core.Path.{◌≡◌, refl, ap}
+use mathlib.Core.Path.{◌≡◌, refl}
 use mathlib.Core.Bool.{true}
 use mathlib.Core.List.{List}
 use Prim.Native.Nat.{ℕ}
 use contract.Lifetimes.{Lfts}
 use Rattle.settings.specs.declared.refusal.Refusal.{Refusal}
-use Rattle.layouts.specs.declared.fitting.Fitting.{Fitting}
 use Rattle.layouts.specs.declared.descent.Descent.{Descent}
 use Rattle.layouts.specs.declared.layout.Layout.{Layout}
 use Rattle.layouts.specs.declared.layout.Region.{Region}
@@ -211,10 +210,10 @@ level_alike : (t u : Level) → t.fitting.layout ≡ u.fitting.layout → t.leve
 level_alike t u a b = rw (t.lies, u.lies, a, b) refl
 
 -- all that a walk carries
-abbrev reached : Descent → Fitting × ℕ × ℕ × ℕ × ℕ
-reached d = (d.fitting, d.level, d.offset, d.width, d.height)
+abbrev reached : Descent → Layout × ℕ × ℕ × ℕ × ℕ
+reached d = (d.layout, d.level, d.offset, d.width, d.height)
 
-alike : (d e : Descent) → d.fitting ≡ e.fitting → d.level ≡ e.level → reached d ≡ reached e
+alike : (d e : Descent) → d.layout ≡ e.layout → d.level ≡ e.level → reached d ≡ reached e
 alike d e a b = rw (d.place, d.sides.0, d.sides.1, e.place, e.sides.0, e.sides.1, a, b) refl
 
 pub descent_top_unique : (κs : Lfts 0) → OneOutcome (descent_top_reads.Post κs) (λ r e. reached r)
@@ -230,7 +229,7 @@ pub descent_region_unique : (κs : Lfts 0) → OneOutcome (descent_region_reads.
 descent_region_unique κs x r s e f p q = determined itself p q
 
 pub descent_here_unique : (κs : Lfts 0) → OneOutcome (descent_here_reads.Post κs) (λ r e. told r)
-descent_here_unique κs x r s e f p q = level_alike r s (ap (λ (t : Fitting). t.layout) (determined itself p.0 q.0)) (determined itself p.1 q.1)
+descent_here_unique κs x r s e f p q = level_alike r s (determined itself p.0 q.0) (determined itself p.1 q.1)
 
 pub level_end_unique : (κs : Lfts 0) → OneOutcome (level_end_reads.Post κs) (λ r e. r)
 level_end_unique κs x r s e f p q = determined itself p q

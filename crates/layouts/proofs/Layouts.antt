@@ -21,7 +21,6 @@ use Rattle.settings.proofs.Heights.{prod_le, reduced_le, total_le, total_suc}
 use Rattle.settings.proofs.Known.{number_then}
 use Rattle.settings.proofs.Accepted.{within}
 use Rattle.layouts.specs.declared.layout.Layout.{Layout}
-use Rattle.layouts.specs.declared.fitting.Fitting.{Fitting}
 use Rattle.layouts.specs.declared.level.Level.{Level}
 use Rattle.layouts.specs.declared.descent.Descent.{Descent}
 use Rattle.layouts.specs.declared.rows.Run.{Run}
@@ -238,5 +237,5 @@ pub turn : {n : Naturals} (q : Layout) (l : ℕ) → layout_no q ≡ 0 → n ≡
 turn q l fine e lt = let few = ap (λ (x : Naturals). x.levels) e in let most = levels_le q (allowed q fine) in (omega (arith, few, lt), omega (arith, few, most, lt))
 
 -- where the walk was before its last step, the level above the one that it has reached lies
-pub above_at : (d e : Descent) (t : Level) → e.fitting ≡ d.fitting → e.level ≡ d.level + 1 → t.fitting ≡ e.fitting → t.level ≡ e.level → d.offset ≡ offset_at t.fitting.layout (t.level - 1)
-above_at d e t a b x y = d.place ∙ ap₂ (λ (q : Fitting) (l : ℕ). offset_at q.layout l) (sym a ∙ sym x) (omega (arith, b, y))
+pub above_at : (d e : Descent) (t : Level) → e.layout ≡ d.layout → e.level ≡ d.level + 1 → t.fitting.layout ≡ e.layout → t.level ≡ e.level → d.offset ≡ offset_at t.fitting.layout (t.level - 1)
+above_at d e t a b x y = d.place ∙ ap₂ offset_at (sym a ∙ sym x) (omega (arith, b, y))

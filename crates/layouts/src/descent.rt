@@ -5,32 +5,34 @@ ghost use Rattle.settings.specs.Limits.{most_levels};
 ghost use Rattle.settings.specs.Sizes.{reduced};
 ghost use Rattle.settings.specs.Check.{luma_w, luma_h};
 ghost use Rattle.layouts.specs.Layout.{levels_of, offset_at, region_at};
+ghost use Rattle.layouts.specs.Refusals.{layout_no};
 
 use crate::fitting::Fitting;
-use crate::layout::Region;
+use crate::layout::{Layout, Region};
 use crate::level::Level;
 use crate::levels::stored;
 use settings::super_opts::reduce_once;
 
 // Where a level lies, and the picture's sides, reduced so often. At the count of levels it is where the last one ends.
+// It starts in any layout; only of one that isn't refused do the next places fit.
 #[derive(Clone, Copy)]
 pub struct Descent {
-    pub fitting: Fitting,
+    pub layout: Layout,
     pub level: u32,
     pub offset: usize,
-    width: u32,
-    height: u32,
-    pub ghost place: { offset ≡ offset_at fitting.layout level },
-    ghost sides: { (width ≡ reduced (luma_w fitting.layout.opts) level) × (height ≡ reduced (luma_h fitting.layout.opts) level) },
+    pub width: u32,
+    pub height: u32,
+    pub ghost place: { offset ≡ offset_at layout level },
+    pub ghost sides: { (width ≡ reduced (luma_w layout.opts) level) × (height ≡ reduced (luma_h layout.opts) level) },
 }
 
 impl Descent {
-    pub fn top(fitting: Fitting) -> Descent
-        ensures { (result.fitting ≡ fitting) × (result.level ≡ 0) }
+    pub fn top(layout: Layout) -> Descent
+        ensures { (result.layout ≡ layout) × (result.level ≡ 0) }
     {
-        let n = fitting.layout.opts.naturals();
+        let n = layout.opts.naturals();
         Descent {
-            fitting,
+            layout,
             level: 0,
             offset: 0,
             width: n.width,
@@ -39,15 +41,15 @@ impl Descent {
     }
 
     pub fn next(self) -> Descent
-        requires { self.level < most_levels }
-        ensures { (result.fitting ≡ self.fitting) × (result.level ≡ self.level + 1) }
+        requires { (layout_no self.layout ≡ 0) × (self.level < most_levels) }
+        ensures { (result.layout ≡ self.layout) × (result.level ≡ self.level + 1) }
     {
-        let layout = self.fitting.layout;
+        let layout = self.layout;
         let above = self.height;
         let below = reduce_once(above);
         let rows = stored(layout, self.level) * (above >> layout.y_shift) as usize;
         Descent {
-            fitting: self.fitting,
+            layout,
             level: self.level + 1,
             offset: self.offset + rows * layout.pitch,
             width: reduce_once(self.width),
@@ -56,8 +58,8 @@ impl Descent {
     }
 
     pub fn down(self, to: u32) -> Descent
-        requires { (self.level ≤ to) × (to ≤ most_levels) }
-        ensures { (result.fitting ≡ self.fitting) × (result.level ≡ to) }
+        requires { (layout_no self.layout ≡ 0) × (self.level ≤ to) × (to ≤ most_levels) }
+        ensures { (result.layout ≡ self.layout) × (result.level ≡ to) }
     {
         let mut at = self;
         while at.level < to {
@@ -67,9 +69,10 @@ impl Descent {
     }
 
     pub fn region(self) -> Region
-        ensures { result ≡ region_at self.fitting.layout self.level }
+        requires { layout_no self.layout ≡ 0 }
+        ensures { result ≡ region_at self.layout self.level }
     {
-        let layout = self.fitting.layout;
+        let layout = self.layout;
         Region {
             offset: self.offset,
             width: (self.width >> layout.x_shift) as usize,
@@ -78,11 +81,12 @@ impl Descent {
     }
 
     pub fn here(self) -> Level
-        requires { self.level < levels_of self.fitting.layout }
-        ensures { (result.fitting ≡ self.fitting) × (result.level ≡ self.level) }
+        requires { (layout_no self.layout ≡ 0) × (self.level < levels_of self.layout) }
+        ensures { (result.fitting.layout ≡ self.layout) × (result.level ≡ self.level) }
     {
+        let layout = self.layout;
         Level {
-            fitting: self.fitting,
+            fitting: Fitting { layout },
             level: self.level,
             region: self.region(),
         }

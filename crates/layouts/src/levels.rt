@@ -88,6 +88,6 @@ impl Fitting {
         requires { level ≤ most_levels }
         ensures { result ≡ offset_at self.layout level }
     {
-        Descent::top(self).down(level).offset
+        Descent::top(self.layout).down(level).offset
     }
 }

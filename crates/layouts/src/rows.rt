@@ -44,7 +44,7 @@ impl Fitting {
         if self.layout.opts.naturals().levels <= level {
             return Err(Refusal::NoRow);
         }
-        Descent::top(self).down(level).here().row(plane, y)
+        Descent::top(self.layout).down(level).here().row(plane, y)
     }
 }
 

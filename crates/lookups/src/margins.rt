@@ -17,7 +17,7 @@ fn clear_levels(frame: &mut [u8], fitting: Fitting)
     ensures { frame.new ≡ cleared fitting.layout frame.old }
 {
     let levels = fitting.layout.opts.naturals().levels;
-    let mut above = Descent::top(fitting);
+    let mut above = Descent::top(fitting.layout);
     for level in 1..levels {
         let at = above.next();
         let later = Later {

@@ -52,7 +52,7 @@ fn reduce_each(
     ensures { Staged (halved_by fuse fitting.layout src.now src_pitch (length canvas.old.frame.now) (Some filter)) canvas.old canvas.new }
 {
     let levels = fitting.layout.opts.naturals().levels;
-    let mut above = Descent::top(fitting);
+    let mut above = Descent::top(fitting.layout);
     for level in 1..levels {
         let at = above.next();
         let later = Later {

@@ -55,7 +55,7 @@ pub fn fill(numbers: &mut [usize], fitting: Fitting)
     numbers[X_SHIFT] = layout.x_shift as usize;
     numbers[Y_SHIFT] = layout.y_shift as usize;
     numbers[PITCH] = layout.pitch;
-    let mut at = Descent::top(fitting);
+    let mut at = Descent::top(layout);
     // By index: a level's numbers are written where `region_in` reads them.
     for level in 0..levels {
         let r = at.region();
@@ -138,7 +138,7 @@ fn has_regions(numbers: &[usize], fitting: Fitting) -> bool
 {
     let layout = fitting.layout;
     let levels = layout.opts.naturals().levels;
-    let mut at = Descent::top(fitting);
+    let mut at = Descent::top(layout);
     for level in 0..levels {
         if region_in(numbers, level) != at.region() {
             return false;

@@ -2,7 +2,7 @@ use mathlib.Core.Path.{ap, ap₂, ◌∙◌}
 use Prim.Native.Nat.{ℕ, ◌+◌, ◌-◌}
 use native.Mathlib.Omega.{arith}
 use Rattle.settings.specs.declared.super_opts.Naturals.{Naturals}
-use Rattle.layouts.specs.declared.fitting.Fitting.{Fitting}
+use Rattle.layouts.specs.declared.layout.Layout.{Layout}
 use Rattle.layouts.specs.Storing.{steps}
 use Rattle.layouts.specs.Layout.{levels_of, written_end}
 use Rattle.layouts.specs.Margins.{clear_level, cleared}
@@ -16,13 +16,15 @@ loop-level-init c = (omega arith, walked_none, c.top-above.ensures.0, c.top-abov
 pub next-at-requires : goal.next-at-requires
 next-at-requires c =
     let q = c.args.fitting in
-    omega (arith, turn q.layout c.loop-level.level q.fits c.naturals-levels.ensures c.loop-level-test.true, c.loop-level.invariant)
+    let l = c.loop-level in
+    (rw l.invariant.2 q.fits, omega (arith, turn q.layout l.level q.fits c.naturals-levels.ensures c.loop-level-test.true, l.invariant))
 
 pub here-requires : goal.here-requires
 here-requires c =
     let q = c.args.fitting in
     let l = c.loop-level in
-    omega (arith, turn q.layout l.level q.fits c.naturals-levels.ensures c.loop-level-test.true, l.invariant.0, l.invariant.3, c.next-at.ensures.1, ap (λ (x : Fitting). levels_of x.layout) (c.next-at.ensures.0 ∙ l.invariant.2))
+    let same = c.next-at.ensures.0 ∙ l.invariant.2 in
+    (rw same q.fits, omega (arith, turn q.layout l.level q.fits c.naturals-levels.ensures c.loop-level-test.true, l.invariant.0, l.invariant.3, c.next-at.ensures.1, ap levels_of same))
 
 pub invariant_of-later : goal.invariant_of-later
 invariant_of-later c = record { above = above_at c.loop-level.above c.next-at.result c.here.result c.next-at.ensures.0 c.next-at.ensures.1 c.here.ensures.0 c.here.ensures.1 }
@@ -31,7 +33,7 @@ pub clear-requires : goal.clear-requires
 clear-requires c =
     let l = c.loop-level in (
       omega (arith, c.next-at.ensures.1, c.here.ensures.1),
-      omega (arith, c.requires, l.invariant.1.same, ap (λ (x : Fitting). written_end x.layout) (c.here.ensures.0 ∙ c.next-at.ensures.0 ∙ l.invariant.2)),
+      omega (arith, c.requires, l.invariant.1.same, ap written_end (c.here.ensures.0 ∙ c.next-at.ensures.0 ∙ l.invariant.2)),
     )
 
 pub loop-level-preserved : goal.loop-level-preserved
@@ -40,7 +42,7 @@ loop-level-preserved c =
     let same = c.next-at.ensures.0 ∙ l.invariant.2 in (
       omega arith,
       walked_next (clear_level c.args.fitting.layout) l.invariant.0 l.invariant.1 c.loop-level-test.true c.clear.auto.frame
-          (c.clear.ensures ∙ ap₂ (λ (x : Fitting) (n : ℕ). clear_level x.layout n l.frame) (c.here.ensures.0 ∙ same) (omega (arith, l.invariant.0, l.invariant.3, c.next-at.ensures.1, c.here.ensures.1))),
+          (c.clear.ensures ∙ ap₂ (λ (x : Layout) (n : ℕ). clear_level x n l.frame) (c.here.ensures.0 ∙ same) (omega (arith, l.invariant.0, l.invariant.3, c.next-at.ensures.1, c.here.ensures.1))),
       same,
       omega (arith, l.invariant.0, l.invariant.3, c.next-at.ensures.1),
     )

@@ -3,7 +3,7 @@ use Prim.Native.Nat.{ℕ, ◌+◌, ◌-◌}
 use native.Mathlib.Omega.{arith}
 use lib.ListN.{length}
 use Rattle.settings.specs.declared.super_opts.Naturals.{Naturals}
-use Rattle.layouts.specs.declared.fitting.Fitting.{Fitting}
+use Rattle.layouts.specs.declared.layout.Layout.{Layout}
 use Rattle.layouts.specs.Storing.{steps}
 use Rattle.layouts.specs.Layout.{levels_of}
 use Rattle.layouts.proofs.Layouts.{turn, above_at}
@@ -18,13 +18,15 @@ loop-level-init c = (omega arith, passed_none, c.top-above.ensures.0, c.top-abov
 pub next-at-requires : goal.next-at-requires
 next-at-requires c =
     let q = c.args.fitting in
-    omega (arith, turn q.layout c.loop-level.level q.fits c.naturals-levels.ensures c.loop-level-test.true, c.loop-level.invariant)
+    let l = c.loop-level in
+    (rw l.invariant.2 q.fits, omega (arith, turn q.layout l.level q.fits c.naturals-levels.ensures c.loop-level-test.true, l.invariant))
 
 pub here-requires : goal.here-requires
 here-requires c =
     let q = c.args.fitting in
     let l = c.loop-level in
-    omega (arith, turn q.layout l.level q.fits c.naturals-levels.ensures c.loop-level-test.true, l.invariant.0, l.invariant.3, c.next-at.ensures.1, ap (λ (x : Fitting). levels_of x.layout) (c.next-at.ensures.0 ∙ l.invariant.2))
+    let same = c.next-at.ensures.0 ∙ l.invariant.2 in
+    (rw same q.fits, omega (arith, turn q.layout l.level q.fits c.naturals-levels.ensures c.loop-level-test.true, l.invariant.0, l.invariant.3, c.next-at.ensures.1, ap levels_of same))
 
 pub invariant_of-later : goal.invariant_of-later
 invariant_of-later c = record { above = above_at c.loop-level.above c.next-at.result c.here.result c.next-at.ensures.0 c.next-at.ensures.1 c.here.ensures.0 c.here.ensures.1 }
@@ -42,7 +44,7 @@ loop-level-preserved c =
     let same = c.next-at.ensures.0 ∙ l.invariant.2 in (
       omega arith,
       passed_next (level_by a.fuse a.fitting.layout a.src.now a.src_pitch (length a.canvas.now.frame.now) a.filter) l.invariant.0 l.invariant.1 c.loop-level-test.true
-          (staged_as r.ensures (ap₂ (λ (x : Fitting) (n : ℕ). level_by a.fuse x.layout a.src.now a.src_pitch (length l.canvas.frame.now) a.filter n (bytes_of l.canvas)) (c.here.ensures.0 ∙ same) (omega (arith, l.invariant.0, l.invariant.3, c.next-at.ensures.1, c.here.ensures.1)) ∙ ap (λ (k : ℕ). level_by a.fuse a.fitting.layout a.src.now a.src_pitch k a.filter l.level (bytes_of l.canvas)) l.invariant.1.staged.frame_long)),
+          (staged_as r.ensures (ap₂ (λ (x : Layout) (n : ℕ). level_by a.fuse x a.src.now a.src_pitch (length l.canvas.frame.now) a.filter n (bytes_of l.canvas)) (c.here.ensures.0 ∙ same) (omega (arith, l.invariant.0, l.invariant.3, c.next-at.ensures.1, c.here.ensures.1)) ∙ ap (λ (k : ℕ). level_by a.fuse a.fitting.layout a.src.now a.src_pitch k a.filter l.level (bytes_of l.canvas)) l.invariant.1.staged.frame_long)),
       same,
       omega (arith, l.invariant.0, l.invariant.3, c.next-at.ensures.1),
     )

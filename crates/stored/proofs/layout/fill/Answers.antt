@@ -4,7 +4,6 @@ use native.Mathlib.Omega.{arith}
 use lib.ListN.{length-set}
 use Rattle.settings.specs.declared.super_opts.Naturals.{Naturals}
 use Rattle.filters.proofs.Filling.{filled_fewer}
-use Rattle.layouts.specs.declared.fitting.Fitting.{Fitting}
 use Rattle.layouts.specs.Layout.{region_at}
 use Rattle.layouts.proofs.Layouts.{turn, region_there}
 use Rattle.stored.proofs.Places.{filled_level, filled_rest}
@@ -25,17 +24,21 @@ bounds-numbers-i-in-loop-level-2 c =
     let q = c.args.fitting in
     rw (length-set, length-set) (omega (arith, turn q.layout c.loop-level.level q.fits c.naturals-levels.ensures c.loop-level-test.true, c.loop-level.invariant.3.long))
 
+pub region-r-requires : goal.region-r-requires
+region-r-requires c = rw c.loop-level.invariant.0 c.args.fitting.fits
+
 pub next-at-requires : goal.next-at-requires
 next-at-requires c =
     let q = c.args.fitting in
-    omega (arith, turn q.layout c.loop-level.level q.fits c.naturals-levels.ensures c.loop-level-test.true, c.loop-level.invariant.1)
+    let l = c.loop-level in
+    (rw l.invariant.0 q.fits, omega (arith, turn q.layout l.level q.fits c.naturals-levels.ensures c.loop-level-test.true, l.invariant.1))
 
 pub loop-level-preserved : goal.loop-level-preserved
 loop-level-preserved c =
     let q = c.args.fitting in
     let l = c.loop-level in
     let there = turn q.layout l.level q.fits c.naturals-levels.ensures c.loop-level-test.true in (
-      ap (λ (x : Fitting). x.layout) c.next-at.ensures.0 ∙ l.invariant.0,
+      c.next-at.ensures.0 ∙ l.invariant.0,
       c.next-at.ensures.1 ∙ ap (λ (n : ℕ). n + 1) l.invariant.1,
       omega (arith, c.loop-level-test.true),
       filled_level q.layout l.invariant.3 there.1 (c.region-r.ensures ∙ ap₂ region_at l.invariant.0 l.invariant.1 ∙ sym (region_there q.layout l.level there.0)),

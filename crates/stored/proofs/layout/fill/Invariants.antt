@@ -6,7 +6,7 @@ use Rattle.stored.specs.Layout.{number_at, most_numbers}
 use Rattle.stored.proofs.layout.fill.Given as goal
 
 abbrev pub invariant-loop-level : goal.invariant-loop-level
-invariant-loop-level l = (l.at.fitting.layout ≡ l.fn.fitting.layout) × (l.at.level ≡ l.level) × (l.level ≤ l.levels) × Filled (number_at l.fn.fitting.layout) l.numbers most_numbers (4 + 3 * l.level)
+invariant-loop-level l = (l.at.layout ≡ l.fn.fitting.layout) × (l.at.level ≡ l.level) × (l.level ≤ l.levels) × Filled (number_at l.fn.fitting.layout) l.numbers most_numbers (4 + 3 * l.level)
 
 abbrev pub decreases-loop-level : goal.decreases-loop-level
 decreases-loop-level l = l.levels - l.level

@@ -13,6 +13,9 @@ use Rattle.stored.proofs.layout.has_regions.Goals as goal
 pub region_in-requires : goal.region_in-requires
 region_in-requires c = let q = c.args.fitting in ((turn q.layout c.loop-level.level q.fits c.naturals-levels.ensures c.loop-level-test.true).1, c.requires)
 
+pub region-requires : goal.region-requires
+region-requires c = rw c.loop-level.invariant.0 c.args.fitting.fits
+
 pub returns-then-ne : goal.returns-then-ne
 returns-then-ne c =
     let q = c.args.fitting.layout in
@@ -24,7 +27,10 @@ returns-then-ne c =
     sym (every_no (same_at q numbers) most_levels l there.1 other)
 
 pub next-at-requires : goal.next-at-requires
-next-at-requires c = let q = c.args.fitting in omega (arith, turn q.layout c.loop-level.level q.fits c.naturals-levels.ensures c.loop-level-test.true, c.loop-level.invariant.1)
+next-at-requires c =
+    let q = c.args.fitting in
+    let l = c.loop-level in
+    (rw l.invariant.0 q.fits, omega (arith, turn q.layout l.level q.fits c.naturals-levels.ensures c.loop-level-test.true, l.invariant.1))
 
 pub ends_in_zeros-requires : goal.ends_in_zeros-requires
 ends_in_zeros-requires c =

@@ -6,7 +6,7 @@ use Rattle.stored.specs.Inner.{same_at}
 use Rattle.stored.proofs.layout.has_regions.Given as goal
 
 abbrev pub invariant-loop-level : goal.invariant-loop-level
-invariant-loop-level l = (l.at.fitting.layout ≡ l.layout) × (l.at.level ≡ l.level) × (l.level ≤ l.levels) × ((j : ℕ) → j < l.level → same_at l.layout l.numbers j ≡ true)
+invariant-loop-level l = (l.at.layout ≡ l.layout) × (l.at.level ≡ l.level) × (l.level ≤ l.levels) × ((j : ℕ) → j < l.level → same_at l.layout l.numbers j ≡ true)
 
 abbrev pub decreases-loop-level : goal.decreases-loop-level
 decreases-loop-level l = l.levels - l.level

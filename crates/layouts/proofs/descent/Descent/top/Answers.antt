@@ -9,6 +9,6 @@ pub invariant_of-result : goal.invariant_of-result
 unfolding reduced
 invariant_of-result c =
     record {
-      place = sym (offset_first c.args.fitting.layout);
+      place = sym (offset_first c.args.layout);
       sides = (ap (λ (x : Naturals). x.width) c.naturals-n.ensures, ap (λ (x : Naturals). x.height) c.naturals-n.ensures);
     }

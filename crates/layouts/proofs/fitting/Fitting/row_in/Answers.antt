@@ -9,4 +9,4 @@ pub down-requires : goal.down-requires
 down-requires c =
     let q = c.args.self in
     let levels = ap (λ (x : Naturals). x.levels) c.naturals.ensures in
-    (omega (arith, c.top.ensures), omega (arith, levels, c.if-naturals-level.false, levels_le q.layout (allowed q.layout q.fits)))
+    (rw c.top.ensures.0 q.fits, omega (arith, c.top.ensures.1), omega (arith, levels, c.if-naturals-level.false, levels_le q.layout (allowed q.layout q.fits)))
