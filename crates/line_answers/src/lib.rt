@@ -26,6 +26,7 @@ pub trait Program {
 }
 
 // Which build each stored word names.
+#[derive(Clone, Copy)]
 pub struct Words;
 
 impl Program for Words {
@@ -37,6 +38,7 @@ impl Program for Words {
 }
 
 // Longhand records and settings.
+#[derive(Clone, Copy)]
 pub struct Longhand;
 
 impl Program for Longhand {

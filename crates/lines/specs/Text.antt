@@ -1,5 +1,5 @@
 -- Text in and out: digits, numbers, and last, inner, a line that is being made; between them document 01, "Words read and compared": the line that the program `words` prints for a line.
-use Rattle.std.specs.Prelude.{ℕ, zero, suc, ◌+◌, ◌*◌, ◌-◌, ◌/◌, ◌%◌, ◌≤◌, ◌≡◌, Bool, cond, ◌&&◌, ◌||◌, List, [], ◌∷◌, ◌++◌, leb, ltb, eqb, ℤ, pos, negsuc, length, fold, Option, Some, None}
+use Rattle.std.specs.Prelude.{ℕ, zero, suc, ◌+◌, ◌*◌, ◌-◌, ◌/◌, ◌%◌, ◌≤◌, ◌≡◌, Bool, cond, ◌&&◌, ◌||◌, List, [], ◌∷◌, ◌++◌, leb, ltb, eqb, ℤ, pos, negsuc, length, replicate, fold, Option, Some, None}
 use Rattle.std.specs.List.{list_all}
 use Rattle.settings.specs.declared.word.Description.{Description}
 use Rattle.settings.specs.Numbers.{bit}
@@ -84,6 +84,10 @@ line_out l = line_of l (hex_read l)
 -- the room of a line: each line that is made is shorter
 abbrev pub room : ℕ
 room = 256
+
+-- the text t, and zeros in the room that is left
+abbrev pub buffer_of : List ℕ → List ℕ
+buffer_of t = t ++ replicate (room - length t) 0
 
 -- r is l with the text t after it, of at most k bytes
 pub record Appended (l r t : List ℕ) (k : ℕ) : Type 0 where

@@ -1,6 +1,6 @@
 // Text in and out, for both programs; and the line of `words`: a line in, the line that document 01 prints for it out.
 // First digits in; then `Line`, text that is being made, with what is put after it; last `line_out`, a whole line.
-ghost use Rattle.std.specs.Prelude.{◌≡◌, ℕ, true, List, [], ◌∷◌, ◌+◌, ◌^◌, ◌≤◌, ◌<◌, length, take};
+ghost use Rattle.std.specs.Prelude.{◌≡◌, true, [], ◌∷◌, ◌+◌, ◌^◌, ◌≤◌, ◌<◌, length};
 ghost use Rattle.settings.specs.Numbers.{bit};
 ghost use Rattle.lines.specs.Text.{is_hex, hex_of, is_digit, all_digits, number_of, hex_read, digits, decimal, signed, spaced, optional, described, word_line, sizes_text, flags_text, filters_text, line_out, room, Appended, Printed};
 
@@ -63,18 +63,26 @@ pub fn hex_word(line: &[u8]) -> Option<u64>
 pub const ROOM: usize = 256;
 
 // Text that is being made, at the front of a buffer of fixed size: nothing here is on a heap. A clause sees the text alone.
-#[derive(Drop)]
+// After the text the buffer holds zeros: so the text gives the buffer back, which a copy asks of a model.
+#[derive(Clone, Copy)]
 pub struct Line {
     bytes: [u8; ROOM],
     len: usize,
 }
 
 impl Model for Line {
+    ghost use Rattle.std.specs.Prelude.{◌≡◌, ℕ, List, ◌≤◌, length, take};
+    ghost use Rattle.lines.specs.Text.{room, buffer_of};
+
     ghost Value = { List ℕ };
 
     ghost view = { λ l. take l.len l.bytes };
 
-    ghost invariant = { λ l. l.len ≤ room };
+    ghost invariant = { λ l. (l.len ≤ room) × (length (take l.len l.bytes) ≡ l.len) × (buffer_of (take l.len l.bytes) ≡ l.bytes) };
+
+    ghost inverse = { λ t. record { bytes = buffer_of t; len = length t } };
+
+    ghost inverse_ok = { λ l h i. record { bytes = h.2 i; len = h.1 i } };
 }
 
 impl Line {

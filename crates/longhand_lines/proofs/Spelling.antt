@@ -1,16 +1,16 @@
--- Bytes that hexadecimal digits spell, two for each. Assumes nothing.
+-- Bytes that hexadecimal digits spell, two for each; and digits that are put, the last one apart. Assumes nothing.
 use mathlib.Core.Path.{◌≡◌, refl, sym, ap, ◌∙◌}
 use mathlib.Core.Bool.{true}
 use mathlib.Core.List.{List, [], ◌∷◌, ◌++◌, append-nil, append_assoc}
-use Prim.Native.Nat.{ℕ, ◌+◌, ◌*◌, ◌/◌, ◌≤◌, ◌<◌}
-use native.Mathlib.Numerals.{add-one}
+use Prim.Native.Nat.{ℕ, zero, suc, ◌+◌, ◌*◌, ◌-◌, ◌/◌, ◌%◌, ◌≤◌, ◌<◌}
+use native.Mathlib.Numerals.{add-one, sub-one}
 use native.Mathlib.Omega.{arith}
 use lib.ListN.{length, get_or, take, set, length-append}
 use lib.Seq.{take-suc-set}
 use Rattle.lines.specs.Text.{hex_of, is_digit, all_digits}
 use Rattle.std.proofs.lemmas.List.Folds.{list_all-append}
 use Rattle.settings.proofs.Tests.{and_right}
-use Rattle.longhand_lines.specs.Hex.{bytes_of}
+use Rattle.longhand_lines.specs.Hex.{bytes_of, hex_digit, hex_digits}
 
 bytes_end : (l : List ℕ) → length l ≤ 1 → bytes_of l ≡ []
 unfolding bytes_of
@@ -46,3 +46,8 @@ module _ {l out rest : List ℕ} {i : ℕ} (p : Spelled l out rest i) where
   spelled_whole few =
       let whole : length l / 2 ≡ i = omega (arith, p.most) in
       rw whole (sym (append-nil (take i out)) ∙ ap (λ (o : List ℕ). take i out ++ o) (sym (bytes_end rest (omega arith))) ∙ p.done)
+
+pub hex_more : (k n : ℕ) → 1 ≤ k → hex_digits k n ≡ hex_digits (k - 1) (n / 16) ++ (hex_digit (n % 16) ∷ [])
+unfolding hex_digits
+hex_more zero n some = absurd (omega arith)
+hex_more (suc k) n some = rw (sub-one (suc k)) refl
