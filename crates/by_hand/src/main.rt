@@ -8,7 +8,7 @@ use lookups::margins::clear_margins;
 use planes::build::build_plane;
 use settings::refusal::Refusal;
 use settings::super_opts::{Settings, SuperOpts};
-use std::io;
+use std::{fmt, io};
 use stored::layout::{LAYOUT, level_regions};
 
 fn main(rt: HostRuntime) -> io::Result<()> {
@@ -39,8 +39,8 @@ fn targets<R: Print>(rt: &R) -> io::Result<()> {
         println!(rt; "target {width} wide, margin byte: {byte}")?;
     }
     for (width, layout) in targets {
-        print!(rt; "target {width} wide, built, byte at 2 * width: ")?;
-        print_byte(rt, built_margin(layout, width))?;
+        let byte = ByteOf(built_margin(layout, width));
+        println!(rt; "target {width} wide, built, byte at 2 * width: {byte}")?;
     }
     Ok(())
 }
@@ -64,10 +64,10 @@ fn past_ends<R: Print>(rt: &R) -> io::Result<()> {
     let mut exact = [0u8; 180];
     let mut longer = [0u8; 260];
     longer[180..].fill(255);
-    print!(rt; "16x24, not full, byte 161 of an exact frame: ")?;
-    print_byte(rt, past_end(&mut exact))?;
-    print!(rt; "16x24, not full, byte 161 with 255s past its end: ")?;
-    print_byte(rt, past_end(&mut longer))
+    let byte = ByteOf(past_end(&mut exact));
+    println!(rt; "16x24, not full, byte 161 of an exact frame: {byte}")?;
+    let byte = ByteOf(past_end(&mut longer));
+    println!(rt; "16x24, not full, byte 161 with 255s past its end: {byte}")
 }
 
 // Rows of 20 bytes, each byte ten times its column.
@@ -112,10 +112,16 @@ fn built(frame: &mut [u8], layout: Layout, src: &[u8], src_pitch: usize) -> u32 
     ))
 }
 
-fn print_byte<R: Print>(rt: &R, byte: Option<u8>) -> io::Result<()> {
-    match byte {
-        Some(b) => println!(rt; "{b}"),
-        None => println!(rt; "not built"),
+// A byte of a frame, printed with its line at once, or that the build was refused.
+#[derive(Clone, Copy)]
+struct ByteOf(Option<u8>);
+
+impl fmt::Display for ByteOf {
+    fn fmt<W: fmt::Write>(&self, f: &mut fmt::Formatter<W>) -> fmt::Result {
+        match self.0 {
+            Some(b) => write!(f, "{b}"),
+            None => write!(f, "not built"),
+        }
     }
 }
 

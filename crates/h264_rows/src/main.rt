@@ -32,9 +32,16 @@ fn picture<R: Input + Print>(rt: &R) -> Result<(), End> {
 }
 
 fn held<R: Input + Print>(rt: &R, sides: Sides) -> Result<(), End> {
-    let src = sides.read_plane(rt)?;
-    let b = sides.read_plane(rt)?;
-    let v = sides.read_plane(rt)?;
+    let mut src = [0; 4096];
+    let mut b = [0; 4096];
+    let mut v = [0; 4096];
+    // All three are asked for, though one is cut short.
+    let whole = sides.read_plane(rt, &mut src)?
+        & sides.read_plane(rt, &mut b)?
+        & sides.read_plane(rt, &mut v)?;
+    if !whole {
+        return Err(End::NoCase);
+    }
     let Sides { w, h } = sides;
     print_count(rt, "b", (w - 6) * h, sides.along(&src, &b))?;
     print_count(rt, " h", w * (h - 6), sides.down(&src, &v))?;
@@ -46,10 +53,13 @@ fn print_count<R: Print>(rt: &R, what: &str, compared: usize, differ: usize) -> 
 }
 
 impl Sides {
-    fn read_plane<R: Input>(self, rt: &R) -> Result<[u8; 4096], End> {
-        let mut plane = [0; 4096];
-        read_whole(rt, &mut plane[..self.w * self.h])?;
-        Ok(plane)
+    // Whether all of it was there.
+    fn read_plane<R: Input>(self, rt: &R, plane: &mut [u8; 4096]) -> Result<bool, End> {
+        match read_whole(rt, &mut plane[..self.w * self.h]) {
+            Ok(()) => Ok(true),
+            Err(End::NoCase) => Ok(false),
+            Err(end) => Err(end),
+        }
     }
 
     fn row(self, plane: &[u8; 4096], y: usize) -> &[u8]

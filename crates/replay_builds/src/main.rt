@@ -7,6 +7,7 @@ use frame_cases::{Asked, Lent, laid_of, part, put_tested, read_words};
 use planes::build::{build_plane, build_plane_by};
 use settings::refusal::Refusal;
 use std::io;
+use stored::layout::LAYOUT;
 
 // The largest: a plane of 1920x1080 with all its levels, and the scratch of the widest pitch.
 fn main(rt: HostRuntime) -> io::Result<()> {
@@ -36,8 +37,20 @@ fn answer<R: Input + Print>(
     Ok(lent.put(rt, asked)?)
 }
 
+// By zeros where no layout is made: the call refuses those, and what it is lent is summed then too. The number is making's.
 fn build(words: &[u32; 24], source: &[u8], lent: &mut Lent<'_>) -> Result<(), Refusal> {
-    let layout = laid_of(words)?;
+    let made = laid_of(words);
+    let built = build_by(words, &made.unwrap_or([0; LAYOUT]), source, lent);
+    made?;
+    built
+}
+
+fn build_by(
+    words: &[u32; 24],
+    layout: &[usize],
+    source: &[u8],
+    lent: &mut Lent<'_>,
+) -> Result<(), Refusal> {
     let opts = record_of(words);
     let src_pitch = long(words[14], words[15]);
     if words[23] != 0 {
@@ -47,7 +60,7 @@ fn build(words: &[u32; 24], source: &[u8], lent: &mut Lent<'_>) -> Result<(), Re
             lent.spill,
             lent.scratch,
             opts,
-            &layout,
+            layout,
             source,
             src_pitch,
         );
@@ -57,7 +70,7 @@ fn build(words: &[u32; 24], source: &[u8], lent: &mut Lent<'_>) -> Result<(), Re
         lent.spill,
         lent.scratch,
         opts,
-        &layout,
+        layout,
         source,
         src_pitch,
     )

@@ -9,6 +9,7 @@ use lookups::margins::clear_margins;
 use lookups::rows::{row, row_tested};
 use settings::refusal::Refusal;
 use std::io;
+use stored::layout::LAYOUT;
 
 fn main(rt: HostRuntime) -> io::Result<()> {
     let mut frame = [0u8; 131072];
@@ -32,32 +33,24 @@ fn answer_margins<R: Print>(rt: &R, words: &[u32; 20], frame: &mut [u8]) -> io::
     rt.write_all(frame)
 }
 
+// By zeros where no layout is made, here and for a row: the calls refuse those, and what they leave and hand out then is answered too. The number is making's.
 fn cleared(words: &[u32; 20], frame: &mut [u8]) -> Result<(), Refusal> {
-    let layout = laid_of(words)?;
-    clear_margins(frame, record_of(words), &layout)
+    let made = laid_of(words);
+    let cleared = clear_margins(frame, record_of(words), &made.unwrap_or([0; LAYOUT]));
+    made?;
+    cleared
 }
 
 fn answer_row<R: Print>(rt: &R, words: &[u32; 20], frame: &[u8]) -> io::Result<()> {
-    match found_row(words, frame) {
-        Ok(row) => {
-            put_number(rt, 0)?;
-            put_row(rt, row)
-        }
-        Err(f) => {
-            put_number(rt, f.number())?;
-            put_row(rt, &[])
-        }
-    }
-}
-
-fn found_row<'a>(words: &[u32; 20], frame: &'a [u8]) -> Result<&'a [u8], Refusal> {
-    let layout = laid_of(words)?;
+    let made = laid_of(words);
+    let layout = made.unwrap_or([0; LAYOUT]);
     let opts = record_of(words);
     let level = words[15];
     let plane = words[16] as usize;
     let y = words[17] as usize;
-    row_tested(opts, &layout, frame.len(), level, plane, y)?;
-    Ok(row(frame, opts, &layout, level, plane, y))
+    let tested = row_tested(opts, &layout, frame.len(), level, plane, y);
+    put_tested(rt, made.and(tested))?;
+    put_row(rt, row(frame, opts, &layout, level, plane, y))
 }
 
 fn put_row<R: Print>(rt: &R, row: &[u8]) -> io::Result<()> {
