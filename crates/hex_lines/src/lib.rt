@@ -13,10 +13,14 @@ pub fn read_line<R: Input, const N: usize>(rt: &R) -> Result<[u32; N], End>
 {
     let mut line = [[0u8; 9]; N];
     read_whole(rt, line.as_flattened_mut())?;
-    Ok(line.map(word))
+    let mut words = [0; N];
+    for (word, place) in words.iter_mut().zip(&line) {
+        *word = word_at(place);
+    }
+    Ok(words)
 }
 
-fn word(place: [u8; 9]) -> u32 {
+fn word_at(place: &[u8; 9]) -> u32 {
     place[..8].iter().fold(0, |v, b| v << 4 | digit(*b))
 }
 
@@ -33,19 +37,20 @@ fn digit(b: u8) -> u32
 pub fn write_line<R: Print, const N: usize>(rt: &R, words: [u32; N]) -> io::Result<()>
     requires { N < 100 }
 {
-    let mut line = words.map(placed);
+    let mut line = [[b' '; 9]; N];
+    for (place, word) in line.iter_mut().zip(&words) {
+        put(place, *word);
+    }
     if let Some(last) = line.last_mut() {
         last[8] = b'\n';
     }
     rt.write_all(line.as_flattened())
 }
 
-fn placed(word: u32) -> [u8; 9] {
-    let mut place = [b' '; 9];
+fn put(place: &mut [u8; 9], word: u32) {
     let mut v = word;
     for digit in place[..8].iter_mut().rev() {
         *digit = DIGITS[(v % 16) as usize];
         v /= 16;
     }
-    place
 }

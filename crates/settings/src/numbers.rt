@@ -1,5 +1,5 @@
 // Integers and bools read as numbers: first a natural number and a bit, then an i32 as its bits and back.
-// Each is one call of the library, under the name that the definitions have for it.
+// Each is a call or two of the library, under the name that the definitions have for it.
 ghost use Rattle.std.specs.Prelude.{◌≡◌, ◌<◌};
 ghost use Rattle.settings.specs.Numbers.{bit, bits_of, of_bits, to_nat};
 
@@ -7,7 +7,7 @@ ghost use Rattle.settings.specs.Numbers.{bit, bits_of, of_bits, to_nat};
 pub fn natural(z: i32) -> u32
     ensures { result ≡ to_nat z }
 {
-    u32::try_from(z).unwrap_or(0)
+    z.max(0).cast_unsigned()
 }
 
 pub fn bit(b: bool) -> u64
