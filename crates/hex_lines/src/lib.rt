@@ -1,4 +1,5 @@
 // Lines of hexadecimal words, which the replays read and write: each word is 8 digits, an integer as two's complement, and a space or the line's end.
+// Words are read and written where they stand: with `map` of a line's places, by value, a replay takes a quarter more time.
 #![tactic(auto)]
 
 ghost use Rattle.std.specs.Prelude.{◌<◌};
