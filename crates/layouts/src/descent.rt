@@ -14,7 +14,7 @@ use crate::levels::stored;
 use settings::super_opts::reduce_once;
 
 // Where a level lies, and the picture's sides, reduced so often. At the count of levels it is where the last one ends.
-// It starts in any layout; only of one that isn't refused do the next places fit.
+// It starts in any layout; only of one that isn't refused do the next places fit, and can the sides be shifted.
 #[derive(Clone, Copy)]
 pub struct Descent {
     pub layout: Layout,

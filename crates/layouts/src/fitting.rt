@@ -1,4 +1,4 @@
-// A layout that passed its tests: no refusal of 6, 7 or 8. Only such a layout has offsets and needs that fit, so what tells those takes it.
+// A layout that passed its tests: no refusal of 6, 7 or 8. Only such a layout has offsets and needs that fit, so what tells those takes it; a walk down the levels, which starts in any layout, asks the same by a clause.
 ghost use Rattle.std.specs.Prelude.{◌≡◌};
 ghost use Rattle.layouts.specs.Refusals.{layout_no};
 
